@@ -1,0 +1,6 @@
+pub mod Faults
+pub mod Lines
+pub mod Shape
+pub mod Shown
+pub mod Text
+pub mod Values
