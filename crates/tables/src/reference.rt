@@ -1,0 +1,9 @@
+use line::MemberRow;
+use line::ReadsRow;
+
+// One reference of a statement.
+#[derive(Clone, Copy)]
+pub enum Reference {
+    Reads(ReadsRow),
+    Member(MemberRow),
+}
