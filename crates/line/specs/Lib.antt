@@ -1,4 +1,5 @@
 pub mod Faults
+pub mod Held
 pub mod Lines
 pub mod Shape
 pub mod Shown

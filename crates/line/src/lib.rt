@@ -1,5 +1,7 @@
 // The lines of a graph book: from the bytes of a line to a typed row, or to the reason why the line is refused.
 
+mod buffer;
+mod buffers;
 mod faults;
 mod kinds;
 mod lines;
@@ -10,7 +12,11 @@ mod rows;
 mod splits;
 mod text;
 mod values;
+mod words;
 
+pub use buffer::LineBuffer;
+pub use faults::FaultLine;
+pub use faults::FaultLineDisplay;
 pub use faults::Layer;
 pub use faults::LineFault;
 pub use faults::Told;

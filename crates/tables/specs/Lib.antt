@@ -1,7 +1,9 @@
+pub mod Counts
 pub mod Faults
 pub mod Flags
 pub mod Graph
 pub mod Limits
+pub mod Lines
 pub mod Load
 pub mod References
 pub mod Room
