@@ -14,7 +14,7 @@ use std::alloc::AllocError;
 use std::alloc::Global;
 
 // Rows of which a table has at most one that is the same, by the fields that tell them apart.
-pub trait Distinct {
+pub(crate) trait Distinct {
     ghost same: { Self → Self → Bool };
 
     fn is_same(&self, other: &Self) -> bool
@@ -23,7 +23,7 @@ pub trait Distinct {
 
 impl<T> Table<T> {
     // An empty table with room for `limit` rows.
-    pub fn with_limit(heap: Global, limit: u16) -> Result<Table<T>, AllocError>
+    pub(crate) fn with_limit(heap: Global, limit: u16) -> Result<Table<T>, AllocError>
         ensures { λ r. ⌜ made r (λ t. (rows-of t ≡ []) × (limit-of t ≡ limit)) ⌝ }
     {
         let limit = usize::from(limit);
@@ -31,13 +31,13 @@ impl<T> Table<T> {
         Ok(Table { rows, limit })
     }
 
-    pub fn len(&self) -> usize
+    pub(crate) fn len(&self) -> usize
         ensures { λ r. ⌜ r ≡ length (rows-of (now (self .entry))) ⌝ }
     {
         self.rows.len()
     }
 
-    pub fn rows(&self) -> &[T]
+    pub(crate) fn rows(&self) -> &[T]
         ensures { λ r. ⌜ now r ≡ rows-of (now (self .entry)) ⌝ }
     {
         self.rows.as_slice()
@@ -46,7 +46,7 @@ impl<T> Table<T> {
 
 impl<T: Copy> Table<T> {
     // One row more at the end, unless the table is at its limit.
-    pub fn push(&mut self, row: T) -> Result<(), RowFault>
+    pub(crate) fn push(&mut self, row: T) -> Result<(), RowFault>
         ensures value { λ r. ⌜ r ≡ fits (rows-of (now (self .entry))) (limit-of (now (self .entry))) ⌝ }
         ensures after { λ r. ⌜ rows-of (now (self .exit)) ≡ cond (isOk r) (rows-of (now (self .entry)) ++ row ∷ []) (rows-of (now (self .entry))) ⌝ }
         ensures limit { λ _. ⌜ limit-of (now (self .exit)) ≡ limit-of (now (self .entry)) ⌝ }
@@ -74,7 +74,7 @@ fn has_same<T: Distinct>(rows: &[T], row: &T) -> bool
 
 impl<T: Distinct + Copy> Table<T> {
     // One row more, unless the table is at its limit, or has a row that is the same.
-    pub fn push_once(&mut self, row: T) -> Result<(), RowFault>
+    pub(crate) fn push_once(&mut self, row: T) -> Result<(), RowFault>
         ensures value { λ r. ⌜ r ≡ fits-once (same row) (rows-of (now (self .entry))) (limit-of (now (self .entry))) ⌝ }
         ensures after { λ r. ⌜ rows-of (now (self .exit)) ≡ cond (isOk r) (rows-of (now (self .entry)) ++ row ∷ []) (rows-of (now (self .entry))) ⌝ }
         ensures limit { λ _. ⌜ limit-of (now (self .exit)) ≡ limit-of (now (self .entry)) ⌝ }

@@ -21,7 +21,7 @@ use line::LoadRow;
 use std::alloc::AllocError;
 use std::alloc::Global;
 
-pub impl Distinct for ImportRow as ImportDistinct {
+pub(crate) impl Distinct for ImportRow as ImportDistinct {
     ghost same = { same-import };
 
     fn is_same(&self, other: &ImportRow) -> bool {
@@ -29,7 +29,7 @@ pub impl Distinct for ImportRow as ImportDistinct {
     }
 }
 
-pub impl Distinct for ExportRow as ExportDistinct {
+pub(crate) impl Distinct for ExportRow as ExportDistinct {
     ghost same = { same-export };
 
     fn is_same(&self, other: &ExportRow) -> bool {
@@ -37,7 +37,7 @@ pub impl Distinct for ExportRow as ExportDistinct {
     }
 }
 
-pub impl Distinct for ConstantRow as ConstantDistinct {
+pub(crate) impl Distinct for ConstantRow as ConstantDistinct {
     ghost same = { same-constant };
 
     fn is_same(&self, other: &ConstantRow) -> bool {

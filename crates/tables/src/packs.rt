@@ -57,7 +57,7 @@ fn push_flag(words: &mut Vec<u32>, n: usize, on: bool)
 }
 
 impl Statements {
-    pub fn with_limit(heap: Global, limit: u16) -> Result<Statements, AllocError>
+    pub(crate) fn with_limit(heap: Global, limit: u16) -> Result<Statements, AllocError>
         ensures { λ r. ⌜ made r (λ s. (statements-of s ≡ []) × (limit-of (s .modules) ≡ limit)) ⌝ }
     {
         let modules = Table::with_limit(heap, limit)?;
@@ -65,14 +65,14 @@ impl Statements {
         Ok(Statements { modules, included })
     }
 
-    pub fn len(&self) -> usize
+    pub(crate) fn len(&self) -> usize
         ensures { λ r. ⌜ r ≡ length (statements-of (now (self .entry))) ⌝ }
     {
         self.modules.len()
     }
 
     // One statement more at the end, unless the table is at its limit.
-    pub fn push(&mut self, row: StatementRow) -> Result<(), RowFault>
+    pub(crate) fn push(&mut self, row: StatementRow) -> Result<(), RowFault>
         ensures value { λ r. ⌜ r ≡ fits (statements-of (now (self .entry))) (limit-of (now (self .entry) .modules)) ⌝ }
         ensures after { λ r. ⌜ statements-of (now (self .exit)) ≡ cond (isOk r) (statements-of (now (self .entry)) ++ row ∷ []) (statements-of (now (self .entry))) ⌝ }
         ensures limit { λ _. ⌜ limit-of (now (self .exit) .modules) ≡ limit-of (now (self .entry) .modules) ⌝ }
@@ -88,7 +88,7 @@ impl Statements {
     }
 
     // Whether a statement is included; one that is not there is not.
-    pub fn is_included(&self, statement: usize) -> bool
+    pub(crate) fn is_included(&self, statement: usize) -> bool
         ensures { λ r. ⌜ r ≡ getD (statements-of (now (self .entry))) statement no-statement .included ⌝ }
     {
         if statement >= self.modules.rows.len() {

@@ -3,7 +3,7 @@ use line::ReadsRow;
 
 // One reference of a statement.
 #[derive(Clone, Copy)]
-pub enum Reference {
+pub(crate) enum Reference {
     Reads(ReadsRow),
     Member(MemberRow),
 }

@@ -8,7 +8,7 @@ ghost use Rattle.tables.specs.References.{reads-in, members-in};
 use crate::reference::Reference;
 
 #[derive(Drop)]
-pub struct References {
+pub(crate) struct References {
     pub(crate) rows: Vec<Reference>,
     pub(crate) reads: usize,
     pub(crate) members: usize,

@@ -19,7 +19,7 @@ use std::alloc::AllocError;
 use std::alloc::Global;
 
 impl References {
-    pub fn with_limits(heap: Global, reads: u16, members: u16) -> Result<References, AllocError>
+    pub(crate) fn with_limits(heap: Global, reads: u16, members: u16) -> Result<References, AllocError>
         ensures { λ r. ⌜ made r (λ t. (vec-items (t .rows) ≡ []) × (t .«reads_limit» ≡ reads) × (t .«members_limit» ≡ members)) ⌝ }
     {
         let reads_limit = usize::from(reads);
@@ -29,7 +29,7 @@ impl References {
     }
 
     // One `reads` row more, unless there are as many as there can be.
-    pub fn push_reads(&mut self, row: ReadsRow) -> Result<(), RowFault>
+    pub(crate) fn push_reads(&mut self, row: ReadsRow) -> Result<(), RowFault>
         ensures value { λ r. ⌜ r ≡ fits (reads-in (vec-items (now (self .entry) .rows))) (now (self .entry) .«reads_limit») ⌝ }
         ensures after { λ r. ⌜ vec-items (now (self .exit) .rows) ≡ cond (isOk r) (vec-items (now (self .entry) .rows) ++ Reference.Reads row ∷ []) (vec-items (now (self .entry) .rows)) ⌝ }
         ensures limits { λ _. ⌜ (now (self .exit) .«reads_limit» ≡ now (self .entry) .«reads_limit») × (now (self .exit) .«members_limit» ≡ now (self .entry) .«members_limit») ⌝ }
@@ -44,7 +44,7 @@ impl References {
     }
 
     // One `member` row more, unless there are as many as there can be.
-    pub fn push_member(&mut self, row: MemberRow) -> Result<(), RowFault>
+    pub(crate) fn push_member(&mut self, row: MemberRow) -> Result<(), RowFault>
         ensures value { λ r. ⌜ r ≡ fits (members-in (vec-items (now (self .entry) .rows))) (now (self .entry) .«members_limit») ⌝ }
         ensures after { λ r. ⌜ vec-items (now (self .exit) .rows) ≡ cond (isOk r) (vec-items (now (self .entry) .rows) ++ Reference.Member row ∷ []) (vec-items (now (self .entry) .rows)) ⌝ }
         ensures limits { λ _. ⌜ (now (self .exit) .«reads_limit» ≡ now (self .entry) .«reads_limit») × (now (self .exit) .«members_limit» ≡ now (self .entry) .«members_limit») ⌝ }

@@ -7,7 +7,7 @@ use crate::table::Table;
 use line::ModuleIdx;
 
 #[derive(Drop)]
-pub struct Statements {
+pub(crate) struct Statements {
     pub(crate) modules: Table<ModuleIdx>,
     pub(crate) included: Vec<u32>,
     ghost words: { vec-len included ≡ (vec-len (modules .rows) + 31) / 32 },

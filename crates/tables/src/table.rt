@@ -4,7 +4,7 @@ ghost use Prim.Native.Nat.{_≤_};
 ghost use Rattle.std.specs.Of.Vec.{vec-len, vec-cap};
 
 #[derive(Drop)]
-pub struct Table<T> {
+pub(crate) struct Table<T> {
     pub(crate) rows: Vec<T>,
     pub(crate) limit: usize,
     ghost room: { (vec-len rows ≤ limit) × (limit ≤ vec-cap rows) },
