@@ -1,7 +1,5 @@
 // A book as it is read, byte by byte.
 
-use line::FaultLine;
-use line::FaultLineDisplay;
 use line::LineBuffer;
 use line::LoadKind;
 use std::alloc::AllocError;
@@ -10,6 +8,8 @@ use std::io;
 use tables::Draft;
 use tables::Limits;
 use tables::Taken;
+use text::FaultLine;
+use text::FaultLineDisplay;
 
 #[derive(Drop)]
 pub struct Book {
@@ -23,7 +23,13 @@ pub struct Book {
 impl Book {
     pub fn new(heap: Global) -> Result<Book, AllocError> {
         let draft = Draft::new(heap, Limits::full())?;
-        Ok(Book { draft, line: LineBuffer::new(), lines: 0, others: 0, faults: 0 })
+        Ok(Book {
+            draft,
+            line: LineBuffer::new(),
+            lines: 0,
+            others: 0,
+            faults: 0,
+        })
     }
 
     // A line feed ends a line; any other byte belongs to it.
@@ -45,7 +51,10 @@ impl Book {
             Ok(Taken::Other(_)) => self.others = self.others.saturating_add(1),
             Err(fault) => {
                 self.faults = self.faults.saturating_add(1);
-                rt.println(FaultLine { line: self.lines, told: fault.told() })?;
+                rt.println(FaultLine {
+                    line: self.lines,
+                    told: fault.told(),
+                })?;
             }
         }
         self.line.clear();
@@ -83,6 +92,9 @@ impl Book {
             let count = self.draft.count(kind);
             print!(rt, " {word} {count};")?;
         }
-        println!(rt, " marks, host rows and questions left aside: {others}.\nFaults: {faults}.")
+        println!(
+            rt,
+            " marks, host rows and questions left aside: {others}.\nFaults: {faults}."
+        )
     }
 }

@@ -11,9 +11,9 @@ use borrow.Author.Tests.{lt-leb}
 use Rattle.std.proofs.shelf.Lists.{take-all, take-more-set, length-take, length-push, take-append-le}
 use Rattle.std.proofs.shelf.Tests.{cases-lt}
 use Rattle.std.specs.declared.result.Result.the-variants.{Err}
-use Rattle.line.specs.declared.faults.LineFault.the-variants.{Form}
+use Rattle.text.specs.declared.faults.LineFault.the-variants.{Form}
 use Rattle.line.specs.Lines.{row-of, read-split, of-kind, kind-of}
-use Rattle.line.specs.Text.{front, after, fields}
+use Rattle.text.specs.Parts.{front, after, fields}
 
 -- one byte more, with room for it and without
 pub kept-more : (xs : List ℕ) (n b : ℕ) → length xs ≡ 128 → n < 128 → take (n + 1) (set xs n b) ≡ take 128 (take n xs ++ b ∷ [])

@@ -1,5 +1,2 @@
-pub mod Parts
-pub mod Numbers
-pub mod Scalars
-pub mod Splitting
 pub mod Keeping
+pub mod Splitting

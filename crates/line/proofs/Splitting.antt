@@ -8,19 +8,20 @@ use borrow.Author.Tests.{le-leb}
 use Rattle.std.specs.declared.option.Option.{Option}
 use Rattle.std.specs.declared.option.Option.the-variants.{Some, None}
 use Rattle.std.specs.declared.result.Result.the-variants.{Err}
-use Rattle.line.specs.declared.faults.LineFault.the-variants.{Form}
+use Rattle.text.specs.declared.faults.LineFault.the-variants.{Form}
 use Rattle.line.specs.declared.kinds.AskKind.{AskKind}
 use Rattle.line.specs.declared.kinds.Kind.{Kind}
-use Rattle.line.specs.Lines.{either, question-word, ask-kinds, counted, asked, kind-of, counts, of-kind, split-of}
-use Rattle.line.specs.Text.{front, after, parts, fields}
-use Rattle.line.specs.Values.{spelled}
-use Rattle.line.proofs.Parts.{parts-next}
+use Rattle.line.specs.Shape.{question-word}
+use Rattle.line.specs.Lines.{either, ask-kinds, counted, asked, kind-of, counts, of-kind, split-of}
+use Rattle.text.specs.Parts.{front, after, parts, fields}
+use Rattle.text.specs.Values.{word-among}
+use Rattle.text.proofs.Cuts.{parts-next}
 
 -- which question is asked, by the first part
-pub asked-by : (bytes first : List ℕ) (o : Option AskKind) → first ≡ front bytes → o ≡ spelled question-word ask-kinds first → either o (counted (length (parts bytes)) ask-kinds) ≡ asked (parts bytes)
+pub asked-by : (bytes first : List ℕ) (o : Option AskKind) → first ≡ front bytes → o ≡ word-among question-word ask-kinds first → either o (counted (length (parts bytes)) ask-kinds) ≡ asked (parts bytes)
 asked-by bytes first o f e =
-    ap (λ q. either q (counted (length (parts bytes)) ask-kinds)) (e ∙ ap (spelled question-word ask-kinds) f)
-    ∙ sym (ap (λ fs. either (spelled question-word ask-kinds (getD fs 0 [])) (counted (length (parts bytes)) ask-kinds)) (parts-next bytes))
+    ap (λ q. either q (counted (length (parts bytes)) ask-kinds)) (e ∙ ap (word-among question-word ask-kinds) f)
+    ∙ sym (ap (λ fs. either (word-among question-word ask-kinds (getD fs 0 [])) (counted (length (parts bytes)) ask-kinds)) (parts-next bytes))
 
 pub split-at : (bytes word : List ℕ) (o : Option (List ℕ)) (k : Kind) → length bytes ≤ 127 → word ≡ front bytes → o ≡ after bytes → Some k ≡ kind-of word (fields o) → counts k (fields o) ≡ split-of bytes
 split-at bytes word o k le w l e =

@@ -11,8 +11,8 @@ use Rattle.std.specs.declared.option.Option.{Option}
 use Rattle.std.specs.declared.option.Option.the-variants.{Some, None}
 use Rattle.std.specs.declared.result.Result.{Result}
 use Rattle.std.specs.declared.result.Result.the-variants.{Ok, Err}
-use Rattle.line.specs.declared.faults.LineFault.{LineFault}
-use Rattle.line.specs.declared.faults.LineFault.the-variants.{Form, Value}
+use Rattle.text.specs.declared.faults.LineFault.{LineFault}
+use Rattle.text.specs.declared.faults.LineFault.the-variants.{Form, Value}
 use Rattle.line.specs.declared.kinds.Kind.{Kind}
 use Rattle.line.specs.declared.kinds.Kind.the-variants as kind
 use Rattle.line.specs.declared.kinds.LoadKind.{LoadKind}
@@ -23,17 +23,18 @@ use Rattle.line.specs.declared.kinds.HostKind.{HostKind}
 use Rattle.line.specs.declared.kinds.HostKind.the-variants as host
 use Rattle.line.specs.declared.kinds.AskKind.{AskKind}
 use Rattle.line.specs.declared.kinds.AskKind.the-variants as ask
-use Rattle.line.specs.declared.rows.ExportsKind.the-variants as exports
-use Rattle.line.specs.declared.rows.ModuleKind.the-variants as module-kind
-use Rattle.line.specs.declared.rows.WrapKind.the-variants as wrap
-use Rattle.line.specs.declared.rows.RecordKind.the-variants as record-kind
-use Rattle.line.specs.declared.rows.ExportClass.the-variants as class
-use Rattle.line.specs.declared.rows.Imported.the-variants as imported
-use Rattle.line.specs.declared.rows.Resolution.the-variants as resolution
+use Rattle.text.specs.declared.values.InlineConstMode.the-variants as inline
+use Rattle.text.specs.declared.values.ExportsKind.the-variants as exports
+use Rattle.text.specs.declared.values.ModuleKind.the-variants as module-kind
+use Rattle.text.specs.declared.values.WrapKind.the-variants as wrap
+use Rattle.text.specs.declared.values.RecordKind.the-variants as record-kind
+use Rattle.text.specs.declared.values.ExportClass.the-variants as class
+use Rattle.text.specs.declared.values.Imported.the-variants as imported
+use Rattle.text.specs.declared.values.Resolution.the-variants as resolution
 use Rattle.line.specs.declared.rows.Target.{Target}
 use Rattle.line.specs.declared.rows.Target.the-variants as target
-use Rattle.line.specs.declared.values.TargetKind.{TargetKind}
-use Rattle.line.specs.declared.values.TargetKind.the-variants as target-kind
+use Rattle.text.specs.declared.values.TargetKind.{TargetKind}
+use Rattle.text.specs.declared.values.TargetKind.the-variants as target-kind
 use Rattle.line.specs.declared.rows.LoadRow.{LoadRow}
 use Rattle.line.specs.declared.rows.LoadRow.the-variants.{Mode, Module, Symbol, Record, Statement, Uses, Reads, Member, Import, Export, Constant}
 use Rattle.line.specs.declared.rows.MarkRow.{MarkRow}
@@ -44,9 +45,9 @@ use Rattle.line.specs.declared.rows.AskRow.{AskRow}
 use Rattle.line.specs.declared.rows.AskRow.the-variants as question
 use Rattle.line.specs.declared.rows.Row.{Row}
 use Rattle.line.specs.declared.rows.Row.the-variants.{Load, Mark, Host, Ask}
-use Rattle.line.specs.Shape.{FieldKind, is-value, shape}
-use Rattle.line.specs.Text.{front, after, fields}
-use Rattle.line.specs.Values.{spelled, number-of, optional-of, imported-of, flag-of, inline-of, module-kind-of, exports-of, wrap-of, record-kind-of, class-of, resolution-of, target-of}
+use Rattle.line.specs.Shape.{FieldKind, is-value, shape, load-word, mark-word, host-word, question-word}
+use Rattle.text.specs.Parts.{front, after, fields}
+use Rattle.text.specs.Values.{word-among, number-of, optional-of, imported-of, flag-of, inline-of, module-kind-of, exports-of, wrap-of, record-kind-of, class-of, resolution-of, target-of}
 
 abbrev pub load-kinds : List LoadKind
 load-kinds = load.Mode ∷ load.Module ∷ load.Symbol ∷ load.Record ∷ load.Statement ∷ load.Uses ∷ load.Reads ∷ load.Member ∷ load.Import ∷ load.Export ∷ load.Constant ∷ []
@@ -60,21 +61,6 @@ host-kinds = host.Used ∷ host.Reachable ∷ host.Owns ∷ []
 abbrev pub ask-kinds : List AskKind
 ask-kinds = ask.Record ∷ ask.Circle ∷ ask.Caller ∷ []
 
-abbrev pub load-word : LoadKind → List ℕ
-load-word k = shape (kind.Load k) .word-of
-
-abbrev pub mark-word : MarkKind → List ℕ
-mark-word k = shape (kind.Mark k) .word-of
-
-abbrev pub host-word : HostKind → List ℕ
-host-word k = shape (kind.Host k) .word-of
-
--- the word by which a question is told, the first field of an ask row
-abbrev pub question-word : AskKind → List ℕ
-question-word ask.Record = codes "record"
-question-word ask.Circle = codes "circle"
-question-word ask.Caller = codes "caller"
-
 abbrev pub either : {V : Type 0} → Option V → Option V → Option V
 either None o = o
 either (Some v) o = Some v
@@ -87,14 +73,14 @@ counted n (k ∷ ks) = cond (eqb n (length (shape (kind.Ask k) .kinds))) (Some k
 -- An ask row is of the kind that its first field names. Where that names none it is of the kind that has its count of fields,
 -- so that its first field is then found to be no value.
 abbrev pub asked : List (List ℕ) → Option AskKind
-asked fs = either (spelled question-word ask-kinds (getD fs 0 [])) (counted (length fs) ask-kinds)
+asked fs = either (word-among question-word ask-kinds (getD fs 0 [])) (counted (length fs) ask-kinds)
 
 -- the kind of a row, by its word and, for an ask row, its fields
 abbrev pub kind-of : List ℕ → List (List ℕ) → Option Kind
 kind-of w fs =
-    either (mapped kind.Load (spelled load-word load-kinds w))
-    (either (mapped kind.Mark (spelled mark-word mark-kinds w))
-    (either (mapped kind.Host (spelled host-word host-kinds w))
+    either (mapped kind.Load (word-among load-word load-kinds w))
+    (either (mapped kind.Mark (word-among mark-word mark-kinds w))
+    (either (mapped kind.Host (word-among host-word host-kinds w))
     (cond (sameBytes w (codes "ask")) (mapped kind.Ask (asked fs)) None)))
 
 -- a row of one kind, if its count of fields is right
@@ -130,7 +116,7 @@ target-as target-kind.Carrier n = target.Carrier n
 
 -- the row that fields write, where each is a value of its kind
 abbrev pub load-row : LoadKind → List (List ℕ) → LoadRow
-load-row load.Mode fs = Mode (record { strict = flag-at fs 0; inline = valueOr (inline-of (getD fs 1 [])) None })
+load-row load.Mode fs = Mode (record { strict = flag-at fs 0; inline = valueOr (inline-of (getD fs 1 [])) inline.Off })
 load-row load.Module fs = Module (record {
   kind = valueOr (module-kind-of (getD fs 0 [])) module-kind.Normal;
   exports = valueOr (exports-of (getD fs 1 [])) exports.None;

@@ -7,27 +7,31 @@ use Rattle.std.specs.Options.{isSome}
 use Rattle.std.specs.shelf.Text.{sameBytes}
 use Rattle.line.specs.declared.kinds.Kind.{Kind}
 use Rattle.line.specs.declared.kinds.Kind.the-variants.{Load, Mark, Host, Ask}
+use Rattle.line.specs.declared.kinds.LoadKind.{LoadKind}
 use Rattle.line.specs.declared.kinds.LoadKind.the-variants as load
+use Rattle.line.specs.declared.kinds.MarkKind.{MarkKind}
+use Rattle.line.specs.declared.kinds.HostKind.{HostKind}
+use Rattle.line.specs.declared.kinds.AskKind.{AskKind}
 use Rattle.line.specs.declared.kinds.MarkKind.the-variants as mark
 use Rattle.line.specs.declared.kinds.HostKind.the-variants as host
 use Rattle.line.specs.declared.kinds.AskKind.the-variants as ask
-use Rattle.line.specs.Values.{number-of, optional-of, imported-of, flag-of, inline-of, module-kind-of, exports-of, wrap-of, record-kind-of, class-of, resolution-of, target-of}
+use Rattle.text.specs.Values.{number-of, optional-of, imported-of, flag-of, inline-of, module-kind-of, exports-of, wrap-of, record-kind-of, class-of, resolution-of, target-of}
 
 -- the kinds of values that a field can have to be
 pub data FieldKind : Type 0 where
-  number : FieldKind        -- a decimal number without leading zeros, at most 65,535
-  optional : FieldKind      -- such a number, or `-`
-  imported : FieldKind      -- such a number, or `*`
-  flag : FieldKind          -- `0` or `1`
-  inline : FieldKind        -- `none`, `smart` or `all`
-  module-kind : FieldKind   -- `normal` or `external`
-  exports : FieldKind       -- `none`, `esm` or `cjs`
-  wrap : FieldKind          -- `none`, `cjs` or `esm`
-  record-kind : FieldKind   -- `import` or `other`
-  class : FieldKind         -- `local`, `indirect` or `all`
-  resolution : FieldKind    -- `open`, `lost` or a number
-  target : FieldKind        -- `module` or `carrier`
-  word : List ℕ → FieldKind -- this word
+  number : FieldKind  -- a decimal number without leading zeros, at most 65,535
+  optional : FieldKind  -- such a number, or `-`
+  imported : FieldKind  -- such a number, or `*`
+  flag : FieldKind  -- `0` or `1`
+  inline : FieldKind  -- `none`, `smart` or `all`
+  module-kind : FieldKind  -- `normal` or `external`
+  exports : FieldKind  -- `none`, `esm` or `cjs`
+  wrap : FieldKind  -- `none`, `cjs` or `esm`
+  record-kind : FieldKind  -- `import` or `other`
+  class : FieldKind  -- `local`, `indirect` or `all`
+  resolution : FieldKind  -- `open`, `lost` or a number
+  target : FieldKind  -- `module` or `carrier`
+  word : List ℕ → FieldKind  -- this word
 
 abbrev pub is-value : FieldKind → List ℕ → Bool
 is-value number p = isSome (number-of p)
@@ -77,3 +81,18 @@ shape (Host host.Owns) = row (codes "owns") (number ∷ [])
 shape (Ask ask.Record) = row (codes "ask") (word (codes "record") ∷ number ∷ [])
 shape (Ask ask.Circle) = row (codes "ask") (word (codes "circle") ∷ [])
 shape (Ask ask.Caller) = row (codes "ask") (word (codes "caller") ∷ number ∷ target ∷ number ∷ [])
+
+abbrev pub load-word : LoadKind → List ℕ
+load-word k = shape (Load k) .word-of
+
+abbrev pub mark-word : MarkKind → List ℕ
+mark-word k = shape (Mark k) .word-of
+
+abbrev pub host-word : HostKind → List ℕ
+host-word k = shape (Host k) .word-of
+
+-- the word by which a question is told, the first field of an ask row
+abbrev pub question-word : AskKind → List ℕ
+question-word ask.Record = codes "record"
+question-word ask.Circle = codes "circle"
+question-word ask.Caller = codes "caller"

@@ -12,7 +12,10 @@ impl LineBuffer {
     pub fn new() -> LineBuffer
         ensures { λ r. ⌜ held r ≡ [] ⌝ }
     {
-        LineBuffer { kept: [0; 128], len: 0 }
+        LineBuffer {
+            kept: [0; 128],
+            len: 0,
+        }
     }
 
     // One byte more of the line, which is kept if there is room.

@@ -6,7 +6,6 @@ ghost use Rattle.line.specs.declared.kinds.Kind.the-variants as every;
 ghost use Rattle.line.specs.declared.kinds.LoadKind.the-variants as loads;
 ghost use Rattle.line.specs.Lines.{read-as};
 ghost use Rattle.line.specs.Shown.{load-shown};
-use crate::faults::LineFault;
 use crate::lines::LoadLine;
 use crate::rows::ConstantRow;
 use crate::rows::ExportRow;
@@ -21,17 +20,18 @@ use crate::rows::Row;
 use crate::rows::StatementRow;
 use crate::rows::SymbolRow;
 use crate::rows::UsesRow;
-use crate::values::export_class;
-use crate::values::exports_kind;
-use crate::values::flag;
-use crate::values::imported_name;
-use crate::values::inline_mode;
-use crate::values::module_kind;
-use crate::values::number;
-use crate::values::optional;
-use crate::values::record_kind;
-use crate::values::resolved;
-use crate::values::wrap_kind;
+use text::LineFault;
+use text::export_class;
+use text::exports_kind;
+use text::flag;
+use text::imported_name;
+use text::inline_mode;
+use text::module_kind;
+use text::number;
+use text::optional;
+use text::record_kind;
+use text::resolved;
+use text::wrap_kind;
 
 fn mode_row(strict: &[u8], inline: &[u8]) -> Result<Row, LineFault>
     ensures { λ r. ⌜ r ≡ read-as (every.Load loads.Mode) (now (strict .entry) ∷ now (inline .entry) ∷ []) ⌝ }
@@ -41,7 +41,16 @@ fn mode_row(strict: &[u8], inline: &[u8]) -> Result<Row, LineFault>
     Ok(Row::Load(LoadRow::Mode(ModeRow { strict, inline })))
 }
 
-fn module_row(kind: &[u8], exports: &[u8], wrap: &[u8], wrapper: &[u8], included: &[u8], inner: &[u8], side_effects: &[u8], namespace: &[u8]) -> Result<Row, LineFault>
+fn module_row(
+    kind: &[u8],
+    exports: &[u8],
+    wrap: &[u8],
+    wrapper: &[u8],
+    included: &[u8],
+    inner: &[u8],
+    side_effects: &[u8],
+    namespace: &[u8],
+) -> Result<Row, LineFault>
     ensures { λ r. ⌜ r ≡ read-as (every.Load loads.Module) (now (kind .entry) ∷ now (exports .entry) ∷ now (wrap .entry) ∷ now (wrapper .entry) ∷ now (included .entry) ∷ now (inner .entry) ∷ now («side_effects» .entry) ∷ now (namespace .entry) ∷ []) ⌝ }
 {
     let kind = module_kind(kind, 1)?;
@@ -52,7 +61,16 @@ fn module_row(kind: &[u8], exports: &[u8], wrap: &[u8], wrapper: &[u8], included
     let inner = flag(inner, 6)?;
     let side_effects = flag(side_effects, 7)?;
     let namespace = optional(namespace, 8)?;
-    Ok(Row::Load(LoadRow::Module(ModuleRow { kind, exports, wrap, wrapper, included, inner, side_effects, namespace })))
+    Ok(Row::Load(LoadRow::Module(ModuleRow {
+        kind,
+        exports,
+        wrap,
+        wrapper,
+        included,
+        inner,
+        side_effects,
+        namespace,
+    })))
 }
 
 fn symbol_row(owner: &[u8], canonical: &[u8], through: &[u8]) -> Result<Row, LineFault>
@@ -61,10 +79,20 @@ fn symbol_row(owner: &[u8], canonical: &[u8], through: &[u8]) -> Result<Row, Lin
     let owner = number(owner, 1)?;
     let canonical = number(canonical, 2)?;
     let through = number(through, 3)?;
-    Ok(Row::Load(LoadRow::Symbol(SymbolRow { owner, canonical, through })))
+    Ok(Row::Load(LoadRow::Symbol(SymbolRow {
+        owner,
+        canonical,
+        through,
+    })))
 }
 
-fn record_row(module: &[u8], kind: &[u8], importee: &[u8], star: &[u8], reexport_only: &[u8]) -> Result<Row, LineFault>
+fn record_row(
+    module: &[u8],
+    kind: &[u8],
+    importee: &[u8],
+    star: &[u8],
+    reexport_only: &[u8],
+) -> Result<Row, LineFault>
     ensures { λ r. ⌜ r ≡ read-as (every.Load loads.Record) (now («module» .entry) ∷ now (kind .entry) ∷ now (importee .entry) ∷ now (star .entry) ∷ now («reexport_only» .entry) ∷ []) ⌝ }
 {
     let module = number(module, 1)?;
@@ -72,7 +100,13 @@ fn record_row(module: &[u8], kind: &[u8], importee: &[u8], star: &[u8], reexport
     let importee = optional(importee, 3)?;
     let star = flag(star, 4)?;
     let reexport_only = flag(reexport_only, 5)?;
-    Ok(Row::Load(LoadRow::Record(RecordRow { module, kind, importee, star, reexport_only })))
+    Ok(Row::Load(LoadRow::Record(RecordRow {
+        module,
+        kind,
+        importee,
+        star,
+        reexport_only,
+    })))
 }
 
 fn statement_row(module: &[u8], included: &[u8]) -> Result<Row, LineFault>
@@ -99,17 +133,33 @@ fn reads_row(statement: &[u8], symbol: &[u8]) -> Result<Row, LineFault>
     Ok(Row::Load(LoadRow::Reads(ReadsRow { statement, symbol })))
 }
 
-fn member_row(statement: &[u8], object: &[u8], property: &[u8], resolution: &[u8]) -> Result<Row, LineFault>
+fn member_row(
+    statement: &[u8],
+    object: &[u8],
+    property: &[u8],
+    resolution: &[u8],
+) -> Result<Row, LineFault>
     ensures { λ r. ⌜ r ≡ read-as (every.Load loads.Member) (now (statement .entry) ∷ now (object .entry) ∷ now (property .entry) ∷ now (resolution .entry) ∷ []) ⌝ }
 {
     let statement = number(statement, 1)?;
     let object = number(object, 2)?;
     let property = optional(property, 3)?;
     let resolution = resolved(resolution, 4)?;
-    Ok(Row::Load(LoadRow::Member(MemberRow { statement, object, property, resolution })))
+    Ok(Row::Load(LoadRow::Member(MemberRow {
+        statement,
+        object,
+        property,
+        resolution,
+    })))
 }
 
-fn import_row(module: &[u8], local: &[u8], imported_as: &[u8], record: &[u8], name: &[u8]) -> Result<Row, LineFault>
+fn import_row(
+    module: &[u8],
+    local: &[u8],
+    imported_as: &[u8],
+    record: &[u8],
+    name: &[u8],
+) -> Result<Row, LineFault>
     ensures { λ r. ⌜ r ≡ read-as (every.Load loads.Import) (now («module» .entry) ∷ now (local .entry) ∷ now («imported_as» .entry) ∷ now («record» .entry) ∷ now (name .entry) ∷ []) ⌝ }
 {
     let module = number(module, 1)?;
@@ -117,10 +167,23 @@ fn import_row(module: &[u8], local: &[u8], imported_as: &[u8], record: &[u8], na
     let imported_as = number(imported_as, 3)?;
     let record = number(record, 4)?;
     let name = imported_name(name, 5)?;
-    Ok(Row::Load(LoadRow::Import(ImportRow { module, local, imported_as, record, name })))
+    Ok(Row::Load(LoadRow::Import(ImportRow {
+        module,
+        local,
+        imported_as,
+        record,
+        name,
+    })))
 }
 
-fn export_row(module: &[u8], name: &[u8], class: &[u8], symbol: &[u8], record: &[u8], imported: &[u8]) -> Result<Row, LineFault>
+fn export_row(
+    module: &[u8],
+    name: &[u8],
+    class: &[u8],
+    symbol: &[u8],
+    record: &[u8],
+    imported: &[u8],
+) -> Result<Row, LineFault>
     ensures { λ r. ⌜ r ≡ read-as (every.Load loads.Export) (now («module» .entry) ∷ now (name .entry) ∷ now (class .entry) ∷ now (symbol .entry) ∷ now («record» .entry) ∷ now (imported .entry) ∷ []) ⌝ }
 {
     let module = number(module, 1)?;
@@ -129,7 +192,14 @@ fn export_row(module: &[u8], name: &[u8], class: &[u8], symbol: &[u8], record: &
     let symbol = number(symbol, 4)?;
     let record = optional(record, 5)?;
     let imported = optional(imported, 6)?;
-    Ok(Row::Load(LoadRow::Export(ExportRow { module, name, class, symbol, record, imported })))
+    Ok(Row::Load(LoadRow::Export(ExportRow {
+        module,
+        name,
+        class,
+        symbol,
+        record,
+        imported,
+    })))
 }
 
 fn constant_row(symbol: &[u8], commonjs: &[u8], safe: &[u8]) -> Result<Row, LineFault>
@@ -138,7 +208,11 @@ fn constant_row(symbol: &[u8], commonjs: &[u8], safe: &[u8]) -> Result<Row, Line
     let symbol = number(symbol, 1)?;
     let commonjs = flag(commonjs, 2)?;
     let safe = flag(safe, 3)?;
-    Ok(Row::Load(LoadRow::Constant(ConstantRow { symbol, commonjs, safe })))
+    Ok(Row::Load(LoadRow::Constant(ConstantRow {
+        symbol,
+        commonjs,
+        safe,
+    })))
 }
 
 pub(crate) fn load_row(line: LoadLine<'_>) -> Result<Row, LineFault>
@@ -146,17 +220,67 @@ pub(crate) fn load_row(line: LoadLine<'_>) -> Result<Row, LineFault>
 {
     match line {
         LoadLine::Mode { strict, inline } => mode_row(strict, inline),
-        LoadLine::Module { kind, exports, wrap, wrapper, included, inner, side_effects, namespace } => {
-            module_row(kind, exports, wrap, wrapper, included, inner, side_effects, namespace)
+        LoadLine::Module {
+            kind,
+            exports,
+            wrap,
+            wrapper,
+            included,
+            inner,
+            side_effects,
+            namespace,
+        } => {
+            module_row(
+                kind,
+                exports,
+                wrap,
+                wrapper,
+                included,
+                inner,
+                side_effects,
+                namespace,
+            )
         }
-        LoadLine::Symbol { owner, canonical, through } => symbol_row(owner, canonical, through),
-        LoadLine::Record { module, kind, importee, star, reexport_only } => record_row(module, kind, importee, star, reexport_only),
+        LoadLine::Symbol {
+            owner,
+            canonical,
+            through,
+        } => symbol_row(owner, canonical, through),
+        LoadLine::Record {
+            module,
+            kind,
+            importee,
+            star,
+            reexport_only,
+        } => record_row(module, kind, importee, star, reexport_only),
         LoadLine::Statement { module, included } => statement_row(module, included),
         LoadLine::Uses { statement, record } => uses_row(statement, record),
         LoadLine::Reads { statement, symbol } => reads_row(statement, symbol),
-        LoadLine::Member { statement, object, property, resolution } => member_row(statement, object, property, resolution),
-        LoadLine::Import { module, local, imported_as, record, name } => import_row(module, local, imported_as, record, name),
-        LoadLine::Export { module, name, class, symbol, record, imported } => export_row(module, name, class, symbol, record, imported),
-        LoadLine::Constant { symbol, commonjs, safe } => constant_row(symbol, commonjs, safe),
+        LoadLine::Member {
+            statement,
+            object,
+            property,
+            resolution,
+        } => member_row(statement, object, property, resolution),
+        LoadLine::Import {
+            module,
+            local,
+            imported_as,
+            record,
+            name,
+        } => import_row(module, local, imported_as, record, name),
+        LoadLine::Export {
+            module,
+            name,
+            class,
+            symbol,
+            record,
+            imported,
+        } => export_row(module, name, class, symbol, record, imported),
+        LoadLine::Constant {
+            symbol,
+            commonjs,
+            safe,
+        } => constant_row(symbol, commonjs, safe),
     }
 }

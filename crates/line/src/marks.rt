@@ -5,13 +5,12 @@ ghost use mathlib.Core.List.{List, [], _∷_};
 ghost use Rattle.std.specs.shelf.Text.{sameBytes};
 ghost use Rattle.std.specs.Results.{Cases};
 ghost use mathlib.Core.Bool.{true, false};
-ghost use Rattle.line.specs.declared.faults.LineFault.{LineFault};
+ghost use Rattle.text.specs.declared.faults.LineFault.{LineFault};
 ghost use Rattle.line.specs.declared.kinds.Kind.the-variants as every;
 ghost use Rattle.line.specs.declared.kinds.MarkKind.the-variants as marks;
 ghost use Rattle.line.specs.declared.kinds.AskKind.the-variants as asks;
 ghost use Rattle.line.specs.Lines.{read-as, target-as};
 ghost use Rattle.line.specs.Shown.{mark-shown, host-shown, ask-shown};
-use crate::faults::LineFault;
 use crate::lines::AskLine;
 use crate::lines::HostLine;
 use crate::lines::MarkLine;
@@ -20,11 +19,12 @@ use crate::rows::HostRow;
 use crate::rows::MarkRow;
 use crate::rows::Row;
 use crate::rows::Target;
-use crate::text::is;
-use crate::values::TargetKind;
-use crate::values::flag;
-use crate::values::number;
-use crate::values::target_kind;
+use text::LineFault;
+use text::TargetKind;
+use text::flag;
+use text::is;
+use text::number;
+use text::target_kind;
 
 fn wrapped_row(module: &[u8], symbol: &[u8]) -> Result<Row, LineFault>
     ensures { λ r. ⌜ r ≡ read-as (every.Mark marks.Wrapped) (now («module» .entry) ∷ now (symbol .entry) ∷ []) ⌝ }
@@ -40,7 +40,11 @@ fn carrier_row(record: &[u8], wrapper: &[u8], eager: &[u8]) -> Result<Row, LineF
     let record = number(record, 1)?;
     let wrapper = number(wrapper, 2)?;
     let eager = flag(eager, 3)?;
-    Ok(Row::Mark(MarkRow::Carrier { record, wrapper, eager }))
+    Ok(Row::Mark(MarkRow::Carrier {
+        record,
+        wrapper,
+        eager,
+    }))
 }
 
 fn bind_row(symbol: &[u8], record: &[u8]) -> Result<Row, LineFault>
@@ -61,7 +65,11 @@ pub(crate) fn mark_row(line: MarkLine<'_>) -> Result<Row, LineFault>
         MarkLine::LocalRecord { record } => Ok(Row::Mark(MarkRow::LocalRecord(number(record, 1)?))),
         MarkLine::Nested { record } => Ok(Row::Mark(MarkRow::Nested(number(record, 1)?))),
         MarkLine::Facade { symbol } => Ok(Row::Mark(MarkRow::Facade(number(symbol, 1)?))),
-        MarkLine::Carrier { record, wrapper, eager } => carrier_row(record, wrapper, eager),
+        MarkLine::Carrier {
+            record,
+            wrapper,
+            eager,
+        } => carrier_row(record, wrapper, eager),
         MarkLine::Bind { symbol, record } => bind_row(symbol, record),
     }
 }
@@ -110,14 +118,22 @@ fn ask_circle_row(question: &[u8]) -> Result<Row, LineFault>
     Ok(Row::Ask(AskRow::Circle))
 }
 
-fn ask_caller_row(question: &[u8], record: &[u8], kind: &[u8], place: &[u8]) -> Result<Row, LineFault>
+fn ask_caller_row(
+    question: &[u8],
+    record: &[u8],
+    kind: &[u8],
+    place: &[u8],
+) -> Result<Row, LineFault>
     ensures { λ r. ⌜ r ≡ read-as (every.Ask asks.Caller) (now (question .entry) ∷ now («record» .entry) ∷ now (kind .entry) ∷ now (place .entry) ∷ []) ⌝ }
 {
     named(question, b"caller")?;
     let record = number(record, 2)?;
     let kind = target_kind(kind, 3)?;
     let place = number(place, 4)?;
-    Ok(Row::Ask(AskRow::Caller { record, target: target(kind, place) }))
+    Ok(Row::Ask(AskRow::Caller {
+        record,
+        target: target(kind, place),
+    }))
 }
 
 pub(crate) fn ask_row(line: AskLine<'_>) -> Result<Row, LineFault>
@@ -126,6 +142,11 @@ pub(crate) fn ask_row(line: AskLine<'_>) -> Result<Row, LineFault>
     match line {
         AskLine::Record { question, record } => ask_record_row(question, record),
         AskLine::Circle { question } => ask_circle_row(question),
-        AskLine::Caller { question, record, target, number } => ask_caller_row(question, record, target, number),
+        AskLine::Caller {
+            question,
+            record,
+            target,
+            number,
+        } => ask_caller_row(question, record, target, number),
     }
 }

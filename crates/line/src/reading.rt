@@ -3,7 +3,6 @@
 ghost use mathlib.Core.Path.{_≡_};
 ghost use Rattle.line.specs.Lines.{read-as, row-of};
 ghost use Rattle.line.specs.Shown.{shown};
-use crate::faults::LineFault;
 use crate::lines::Line;
 use crate::loads::load_row;
 use crate::marks::ask_row;
@@ -11,6 +10,7 @@ use crate::marks::host_row;
 use crate::marks::mark_row;
 use crate::rows::Row;
 use crate::splits::split;
+use text::LineFault;
 
 impl Line<'_> {
     // The row that the parts of a line write.

@@ -1,44 +1,30 @@
 // The rows of a graph book, once their fields have been read.
 
+use text::ExportClass;
+use text::ExportsKind;
+use text::Imported;
+use text::InlineConstMode;
+use text::ModuleKind;
+use text::RecordKind;
+use text::Resolution;
+use text::WrapKind;
+
 // The numbers of rows: a row's place among the rows of its word, from 0.
 pub type ModuleIdx = u16;
+
 pub type SymbolRef = u16;
+
 pub type ImportRecordIdx = u16;
+
 pub type StmtInfoIdx = u16;
 
 // The number of an exported or imported name; 0 is `default`.
 pub type Name = u16;
 
 #[derive(Clone, Copy)]
-pub enum InlineConstMode {
-    Smart,
-    All,
-}
-
-#[derive(Clone, Copy)]
 pub struct ModeRow {
     pub strict: bool,
-    pub inline: Option<InlineConstMode>,
-}
-
-#[derive(Clone, Copy)]
-pub enum ModuleKind {
-    Normal,
-    External,
-}
-
-#[derive(Clone, Copy)]
-pub enum ExportsKind {
-    None,
-    Esm,
-    CommonJs,
-}
-
-#[derive(Clone, Copy)]
-pub enum WrapKind {
-    None,
-    Cjs,
-    Esm,
+    pub inline: InlineConstMode,
 }
 
 #[derive(Clone, Copy)]
@@ -60,12 +46,6 @@ pub struct SymbolRow {
     pub canonical: SymbolRef,
     // the canonical symbol once namespaces have been resolved too
     pub through: SymbolRef,
-}
-
-#[derive(Clone, Copy)]
-pub enum RecordKind {
-    Import,
-    Other,
 }
 
 #[derive(Clone, Copy)]
@@ -95,27 +75,12 @@ pub struct ReadsRow {
     pub symbol: SymbolRef,
 }
 
-// What a member expression resolved to: not resolved, resolved to nothing, or to a symbol.
-#[derive(Clone, Copy)]
-pub enum Resolution {
-    Open,
-    Lost,
-    To(SymbolRef),
-}
-
 #[derive(Clone, Copy)]
 pub struct MemberRow {
     pub statement: StmtInfoIdx,
     pub object: SymbolRef,
     pub property: Option<Name>,
     pub resolution: Resolution,
-}
-
-// What an import asks for: the whole namespace, or one name.
-#[derive(Clone, Copy)]
-pub enum Imported {
-    Namespace,
-    Literal(Name),
 }
 
 #[derive(Clone, Copy)]
@@ -125,14 +90,6 @@ pub struct ImportRow {
     pub imported_as: SymbolRef,
     pub record: ImportRecordIdx,
     pub name: Imported,
-}
-
-// A local export entry, an indirect one, or `export * as`.
-#[derive(Clone, Copy)]
-pub enum ExportClass {
-    Local,
-    Indirect,
-    All,
 }
 
 #[derive(Clone, Copy)]
@@ -171,14 +128,24 @@ pub enum LoadRow {
 // The rows that mark a linked book.
 #[derive(Clone, Copy)]
 pub enum MarkRow {
-    Wrapped { module: ModuleIdx, symbol: SymbolRef },
+    Wrapped {
+        module: ModuleIdx,
+        symbol: SymbolRef,
+    },
     Transparent(ModuleIdx),
     Route(ModuleIdx),
     LocalRecord(ImportRecordIdx),
     Nested(ImportRecordIdx),
     Facade(SymbolRef),
-    Carrier { record: ImportRecordIdx, wrapper: SymbolRef, eager: bool },
-    Bind { symbol: SymbolRef, record: ImportRecordIdx },
+    Carrier {
+        record: ImportRecordIdx,
+        wrapper: SymbolRef,
+        eager: bool,
+    },
+    Bind {
+        symbol: SymbolRef,
+        record: ImportRecordIdx,
+    },
 }
 
 // The rows that fill the declared host: members of its three sets.
@@ -201,7 +168,10 @@ pub enum Target {
 pub enum AskRow {
     Record(ImportRecordIdx),
     Circle,
-    Caller { record: ImportRecordIdx, target: Target },
+    Caller {
+        record: ImportRecordIdx,
+        target: Target,
+    },
 }
 
 #[derive(Clone, Copy)]

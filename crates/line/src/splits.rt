@@ -3,69 +3,55 @@
 ghost use mathlib.Core.Path.{_≡_};
 ghost use Rattle.std.specs.Options.{mapped};
 ghost use Rattle.line.specs.declared.kinds.Kind.the-variants as every;
-ghost use Rattle.line.specs.Lines.{load-kinds, load-word, mark-kinds, mark-word, host-kinds, host-word, ask-kinds, question-word, counted, asked, kind-of, counts, split-of};
+ghost use Rattle.line.specs.Lines.{load-kinds, mark-kinds, host-kinds, ask-kinds, counted, asked, kind-of, counts, split-of};
 ghost use Rattle.line.specs.Shown.{load-shown, mark-shown, host-shown, ask-shown, shown, told-by};
-ghost use Rattle.line.specs.Text.{fields, seen};
-ghost use Rattle.line.specs.Values.{spelled};
-use crate::faults::LineFault;
+ghost use Rattle.text.specs.Parts.{fields, seen};
+ghost use Rattle.text.specs.Values.{word-among};
+ghost use Rattle.line.specs.Shape.{load-word, mark-word, host-word, question-word};
 use crate::kinds::AskKind;
+use crate::kinds::AskKindSpelled;
 use crate::kinds::HostKind;
+use crate::kinds::HostKindSpelled;
 use crate::kinds::Kind;
 use crate::kinds::LoadKind;
+use crate::kinds::LoadKindSpelled;
 use crate::kinds::MarkKind;
+use crate::kinds::MarkKindSpelled;
 use crate::lines::AskLine;
 use crate::lines::HostLine;
 use crate::lines::Line;
 use crate::lines::LoadLine;
 use crate::lines::MarkLine;
-use crate::text::count;
-use crate::text::eight;
-use crate::text::field;
-use crate::text::five;
-use crate::text::four;
-use crate::text::is;
-use crate::text::one;
-use crate::text::six;
-use crate::text::three;
-use crate::text::two;
+use text::LineFault;
+use text::count;
+use text::eight;
+use text::field;
+use text::find_word;
+use text::five;
+use text::four;
+use text::is;
+use text::one;
+use text::six;
+use text::three;
+use text::two;
 
 fn load_kind(word: &[u8]) -> Option<LoadKind>
-    ensures { λ r. ⌜ r ≡ spelled load-word load-kinds (now (word .entry)) ⌝ }
+    ensures { λ r. ⌜ r ≡ word-among load-word load-kinds (now (word .entry)) ⌝ }
 {
-    if is(word, b"mode") {
-        return Some(LoadKind::Mode);
-    }
-    if is(word, b"module") {
-        return Some(LoadKind::Module);
-    }
-    if is(word, b"symbol") {
-        return Some(LoadKind::Symbol);
-    }
-    if is(word, b"record") {
-        return Some(LoadKind::Record);
-    }
-    if is(word, b"statement") {
-        return Some(LoadKind::Statement);
-    }
-    if is(word, b"uses") {
-        return Some(LoadKind::Uses);
-    }
-    if is(word, b"reads") {
-        return Some(LoadKind::Reads);
-    }
-    if is(word, b"member") {
-        return Some(LoadKind::Member);
-    }
-    if is(word, b"import") {
-        return Some(LoadKind::Import);
-    }
-    if is(word, b"export") {
-        return Some(LoadKind::Export);
-    }
-    if is(word, b"constant") {
-        return Some(LoadKind::Constant);
-    }
-    None
+    let kinds = [
+        LoadKind::Mode,
+        LoadKind::Module,
+        LoadKind::Symbol,
+        LoadKind::Record,
+        LoadKind::Statement,
+        LoadKind::Uses,
+        LoadKind::Reads,
+        LoadKind::Member,
+        LoadKind::Import,
+        LoadKind::Export,
+        LoadKind::Constant,
+    ];
+    find_word(&kinds, word)
 }
 
 fn load_line<'a>(kind: LoadKind, left: Option<&'a [u8]>) -> Result<LoadLine<'a>, LineFault>
@@ -77,16 +63,37 @@ fn load_line<'a>(kind: LoadKind, left: Option<&'a [u8]>) -> Result<LoadLine<'a>,
             Ok(LoadLine::Mode { strict, inline })
         }
         LoadKind::Module => {
-            let (kind, exports, wrap, wrapper, included, inner, side_effects, namespace) = eight(left)?;
-            Ok(LoadLine::Module { kind, exports, wrap, wrapper, included, inner, side_effects, namespace })
+            let (kind, exports, wrap, wrapper, included, inner, side_effects, namespace) = eight(
+                left,
+            )?;
+            Ok(LoadLine::Module {
+                kind,
+                exports,
+                wrap,
+                wrapper,
+                included,
+                inner,
+                side_effects,
+                namespace,
+            })
         }
         LoadKind::Symbol => {
             let (owner, canonical, through) = three(left)?;
-            Ok(LoadLine::Symbol { owner, canonical, through })
+            Ok(LoadLine::Symbol {
+                owner,
+                canonical,
+                through,
+            })
         }
         LoadKind::Record => {
             let (module, kind, importee, star, reexport_only) = five(left)?;
-            Ok(LoadLine::Record { module, kind, importee, star, reexport_only })
+            Ok(LoadLine::Record {
+                module,
+                kind,
+                importee,
+                star,
+                reexport_only,
+            })
         }
         LoadKind::Statement => {
             let (module, included) = two(left)?;
@@ -102,51 +109,59 @@ fn load_line<'a>(kind: LoadKind, left: Option<&'a [u8]>) -> Result<LoadLine<'a>,
         }
         LoadKind::Member => {
             let (statement, object, property, resolution) = four(left)?;
-            Ok(LoadLine::Member { statement, object, property, resolution })
+            Ok(LoadLine::Member {
+                statement,
+                object,
+                property,
+                resolution,
+            })
         }
         LoadKind::Import => {
             let (module, local, imported_as, record, name) = five(left)?;
-            Ok(LoadLine::Import { module, local, imported_as, record, name })
+            Ok(LoadLine::Import {
+                module,
+                local,
+                imported_as,
+                record,
+                name,
+            })
         }
         LoadKind::Export => {
             let (module, name, class, symbol, record, imported) = six(left)?;
-            Ok(LoadLine::Export { module, name, class, symbol, record, imported })
+            Ok(LoadLine::Export {
+                module,
+                name,
+                class,
+                symbol,
+                record,
+                imported,
+            })
         }
         LoadKind::Constant => {
             let (symbol, commonjs, safe) = three(left)?;
-            Ok(LoadLine::Constant { symbol, commonjs, safe })
+            Ok(LoadLine::Constant {
+                symbol,
+                commonjs,
+                safe,
+            })
         }
     }
 }
 
 fn mark_kind(word: &[u8]) -> Option<MarkKind>
-    ensures { λ r. ⌜ r ≡ spelled mark-word mark-kinds (now (word .entry)) ⌝ }
+    ensures { λ r. ⌜ r ≡ word-among mark-word mark-kinds (now (word .entry)) ⌝ }
 {
-    if is(word, b"wrapped") {
-        return Some(MarkKind::Wrapped);
-    }
-    if is(word, b"transparent") {
-        return Some(MarkKind::Transparent);
-    }
-    if is(word, b"route") {
-        return Some(MarkKind::Route);
-    }
-    if is(word, b"localrecord") {
-        return Some(MarkKind::LocalRecord);
-    }
-    if is(word, b"nested") {
-        return Some(MarkKind::Nested);
-    }
-    if is(word, b"facade") {
-        return Some(MarkKind::Facade);
-    }
-    if is(word, b"carrier") {
-        return Some(MarkKind::Carrier);
-    }
-    if is(word, b"bind") {
-        return Some(MarkKind::Bind);
-    }
-    None
+    let kinds = [
+        MarkKind::Wrapped,
+        MarkKind::Transparent,
+        MarkKind::Route,
+        MarkKind::LocalRecord,
+        MarkKind::Nested,
+        MarkKind::Facade,
+        MarkKind::Carrier,
+        MarkKind::Bind,
+    ];
+    find_word(&kinds, word)
 }
 
 fn mark_line<'a>(kind: MarkKind, left: Option<&'a [u8]>) -> Result<MarkLine<'a>, LineFault>
@@ -164,7 +179,11 @@ fn mark_line<'a>(kind: MarkKind, left: Option<&'a [u8]>) -> Result<MarkLine<'a>,
         MarkKind::Facade => Ok(MarkLine::Facade { symbol: one(left)? }),
         MarkKind::Carrier => {
             let (record, wrapper, eager) = three(left)?;
-            Ok(MarkLine::Carrier { record, wrapper, eager })
+            Ok(MarkLine::Carrier {
+                record,
+                wrapper,
+                eager,
+            })
         }
         MarkKind::Bind => {
             let (symbol, record) = two(left)?;
@@ -174,18 +193,9 @@ fn mark_line<'a>(kind: MarkKind, left: Option<&'a [u8]>) -> Result<MarkLine<'a>,
 }
 
 fn host_kind(word: &[u8]) -> Option<HostKind>
-    ensures { λ r. ⌜ r ≡ spelled host-word host-kinds (now (word .entry)) ⌝ }
+    ensures { λ r. ⌜ r ≡ word-among host-word host-kinds (now (word .entry)) ⌝ }
 {
-    if is(word, b"used") {
-        return Some(HostKind::Used);
-    }
-    if is(word, b"reachable") {
-        return Some(HostKind::Reachable);
-    }
-    if is(word, b"owns") {
-        return Some(HostKind::Owns);
-    }
-    None
+    find_word(&[HostKind::Used, HostKind::Reachable, HostKind::Owns], word)
 }
 
 fn host_line<'a>(kind: HostKind, left: Option<&'a [u8]>) -> Result<HostLine<'a>, LineFault>
@@ -199,18 +209,9 @@ fn host_line<'a>(kind: HostKind, left: Option<&'a [u8]>) -> Result<HostLine<'a>,
 }
 
 fn question(word: &[u8]) -> Option<AskKind>
-    ensures { λ r. ⌜ r ≡ spelled question-word ask-kinds (now (word .entry)) ⌝ }
+    ensures { λ r. ⌜ r ≡ word-among question-word ask-kinds (now (word .entry)) ⌝ }
 {
-    if is(word, b"record") {
-        return Some(AskKind::Record);
-    }
-    if is(word, b"circle") {
-        return Some(AskKind::Circle);
-    }
-    if is(word, b"caller") {
-        return Some(AskKind::Caller);
-    }
-    None
+    find_word(&[AskKind::Record, AskKind::Circle, AskKind::Caller], word)
 }
 
 fn question_with(count: usize) -> Option<AskKind>
@@ -246,10 +247,17 @@ fn ask_line<'a>(kind: AskKind, left: Option<&'a [u8]>) -> Result<AskLine<'a>, Li
             let (question, record) = two(left)?;
             Ok(AskLine::Record { question, record })
         }
-        AskKind::Circle => Ok(AskLine::Circle { question: one(left)? }),
+        AskKind::Circle => Ok(AskLine::Circle {
+            question: one(left)?,
+        }),
         AskKind::Caller => {
             let (question, record, target, number) = four(left)?;
-            Ok(AskLine::Caller { question, record, target, number })
+            Ok(AskLine::Caller {
+                question,
+                record,
+                target,
+                number,
+            })
         }
     }
 }

@@ -30,9 +30,11 @@ count-both (Member m ∷ xs) = omega (arith, count-both xs)
 pub reads-more : (xs ys : List Reference) (r : ReadsRow) → ys ≡ xs ++ Reads r ∷ [] → (length (reads-in ys) ≡ length (reads-in xs) + 1) × (length (members-in ys) ≡ length (members-in xs))
 reads-more xs ys r e = (
   ap (λ l. length (reads-in l)) e ∙ ap length (reads-append xs (Reads r ∷ [])) ∙ length-push (reads-in xs) r,
-  ap (λ l. length (members-in l)) e ∙ ap length (members-append xs (Reads r ∷ []) ∙ append-nil (members-in xs)))
+  ap (λ l. length (members-in l)) e ∙ ap length (members-append xs (Reads r ∷ []) ∙ append-nil (members-in xs)),
+)
 
 pub members-more : (xs ys : List Reference) (m : MemberRow) → ys ≡ xs ++ Member m ∷ [] → (length (reads-in ys) ≡ length (reads-in xs)) × (length (members-in ys) ≡ length (members-in xs) + 1)
 members-more xs ys m e = (
   ap (λ l. length (reads-in l)) e ∙ ap length (reads-append xs (Member m ∷ []) ∙ append-nil (reads-in xs)),
-  ap (λ l. length (members-in l)) e ∙ ap length (members-append xs (Member m ∷ [])) ∙ length-push (members-in xs) m)
+  ap (λ l. length (members-in l)) e ∙ ap length (members-append xs (Member m ∷ [])) ∙ length-push (members-in xs) m,
+)

@@ -32,11 +32,11 @@ module _ (ws : List ℕ) (w n : ℕ) (lt : n / 32 < length ws) where
   pub flag-other : ((j : ℕ) → (j ≡ n % 32 → ⊥) → bit w j ≡ bit (getD ws (n / 32) 0) j) → (k : ℕ) → (k ≡ n → ⊥) → flag-at (set ws (n / 32) w) k ≡ flag-at ws k
   flag-other same k ne = ⊎-elim at-word (λ o. ap (λ v. bit v (k % 32)) (getD-set-other ws (n / 32) (k / 32) w 0 o)) (cases-eq (k / 32) (n / 32))
     where
-    at-word : k / 32 ≡ n / 32 → flag-at (set ws (n / 32) w) k ≡ flag-at ws k
-    at-word e =
-        let apart : k % 32 ≡ n % 32 → ⊥ = λ r. ne (omega (arith, div-add-mod' k 32, div-add-mod' n 32)) in
-        ap (λ i. bit (getD (set ws (n / 32) w) i 0) (k % 32)) e ∙ ap (λ v. bit v (k % 32)) (getD-set-same ws (n / 32) w 0 lt)
-        ∙ same (k % 32) apart ∙ sym (ap (λ i. bit (getD ws i 0) (k % 32)) e)
+      at-word : k / 32 ≡ n / 32 → flag-at (set ws (n / 32) w) k ≡ flag-at ws k
+      at-word e =
+          let apart : k % 32 ≡ n % 32 → ⊥ = λ r. ne (omega (arith, div-add-mod' k 32, div-add-mod' n 32)) in
+          ap (λ i. bit (getD (set ws (n / 32) w) i 0) (k % 32)) e ∙ ap (λ v. bit v (k % 32)) (getD-set-same ws (n / 32) w 0 lt)
+          ∙ same (k % 32) apart ∙ sym (ap (λ i. bit (getD ws i 0) (k % 32)) e)
 
 -- two functions that agree below n list the same
 listed-same : {X : Type 0} (f g : ℕ → X) (n : ℕ) → ((k : ℕ) → k < n → f k ≡ g k) → map f (counting 0 n) ≡ map g (counting 0 n)
@@ -47,7 +47,7 @@ listed-same f g (suc n) same =
 
 -- the rows of statements with one more
 pub rows-push : (ms ws ws′ : List ℕ) (row : StatementRow) → flag-at ws′ (length ms) ≡ row .included → ((k : ℕ) → (k ≡ length ms → ⊥) → flag-at ws′ k ≡ flag-at ws k)
-  → map (statement-at (ms ++ row .«module» ∷ []) ws′) (counting 0 (length (ms ++ row .«module» ∷ []))) ≡ map (statement-at ms ws) (counting 0 (length ms)) ++ row ∷ []
+    → map (statement-at (ms ++ row .«module» ∷ []) ws′) (counting 0 (length (ms ++ row .«module» ∷ []))) ≡ map (statement-at ms ws) (counting 0 (length ms)) ++ row ∷ []
 rows-push ms ws ws′ row here others =
     let m = row .«module» in
     let n = length ms in
@@ -57,14 +57,14 @@ rows-push ms ws ws′ row here others =
     ∙ ap (λ l. l ++ f n ∷ []) (listed-same f (statement-at ms ws) n before)
     ∙ ap (λ r. map (statement-at ms ws) (counting 0 n) ++ r ∷ []) last
   where
-  made : (a a′ : ℕ) (b b′ : Bool) → a ≡ a′ → b ≡ b′ → _≡_ {A = StatementRow} (record { «module» = a; included = b }) (record { «module» = a′; included = b′ })
-  made a a′ b b′ p q = cc
+    made : (a a′ : ℕ) (b b′ : Bool) → a ≡ a′ → b ≡ b′ → _≡_ {A = StatementRow} (record { «module» = a; included = b }) (record { «module» = a′; included = b′ })
+    made a a′ b b′ p q = cc
 
-  before : (k : ℕ) → k < length ms → statement-at (ms ++ row .«module» ∷ []) ws′ k ≡ statement-at ms ws k
-  before k lt = made _ _ _ _ (getD-append-left ms (row .«module» ∷ []) 0 k lt) (others k (λ e. omega arith))
+    before : (k : ℕ) → k < length ms → statement-at (ms ++ row .«module» ∷ []) ws′ k ≡ statement-at ms ws k
+    before k lt = made _ _ _ _ (getD-append-left ms (row .«module» ∷ []) 0 k lt) (others k (λ e. omega arith))
 
-  last : statement-at (ms ++ row .«module» ∷ []) ws′ (length ms) ≡ row
-  last = made _ _ _ _ (getD-push ms (row .«module») 0 (length ms) refl) here
+    last : statement-at (ms ++ row .«module» ∷ []) ws′ (length ms) ≡ row
+    last = made _ _ _ _ (getD-push ms (row .«module») 0 (length ms) refl) here
 
 -- the flag of a statement, by its row
 pub row-flag : (ms ws : List ℕ) (d : StatementRow) (i : ℕ) → i < length ms → flag-at ws i ≡ getD (map (statement-at ms ws) (counting 0 (length ms))) i d .included

@@ -11,7 +11,17 @@ graph d = graph-of (d .mode) (rows-of (d .modules)) (rows-of (d .symbols)) (rows
 
 abbrev pub limits-of : Draft → Limits
 limits-of d = record {
-  modules = limit-of (d .modules); symbols = limit-of (d .symbols); records = limit-of (d .records); statements = limit-of (d .statements .modules);
-  uses = limit-of (d .uses); reads = d .references .«reads_limit»; members = d .references .«members_limit»;
-  imports = limit-of (d .imports); exports = limit-of (d .exports); constants = limit-of (d .constants);
-  carriers = d .carriers; binds = d .binds; names = d .names }
+  modules = limit-of (d .modules);
+  symbols = limit-of (d .symbols);
+  records = limit-of (d .records);
+  statements = limit-of (d .statements .modules);
+  uses = limit-of (d .uses);
+  reads = d .references .«reads_limit»;
+  members = d .references .«members_limit»;
+  imports = limit-of (d .imports);
+  exports = limit-of (d .exports);
+  constants = limit-of (d .constants);
+  carriers = d .carriers;
+  binds = d .binds;
+  names = d .names;
+}

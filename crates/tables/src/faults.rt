@@ -4,9 +4,9 @@ ghost use mathlib.Core.Path.{_≡_};
 ghost use Rattle.tables.specs.declared.faults.BookFault.the-variants.{Row};
 ghost use Rattle.tables.specs.declared.faults.RowFault.the-variants.{Line};
 ghost use Rattle.tables.specs.Faults.{row-told, book-told};
-use line::Layer;
-use line::LineFault;
-use line::Told;
+use text::Layer;
+use text::LineFault;
+use text::Told;
 
 #[derive(Clone, Copy)]
 pub enum RowFault {
@@ -45,8 +45,16 @@ impl RowFault {
     {
         match self {
             RowFault::Line(fault) => fault.told(),
-            RowFault::Full => Told { number: 4, layer: Layer::Row, field: None },
-            RowFault::Twice => Told { number: 5, layer: Layer::Row, field: None },
+            RowFault::Full => Told {
+                number: 4,
+                layer: Layer::Row,
+                field: None,
+            },
+            RowFault::Twice => Told {
+                number: 5,
+                layer: Layer::Row,
+                field: None,
+            },
         }
     }
 }

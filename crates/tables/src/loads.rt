@@ -59,7 +59,12 @@ impl Draft {
         let imports = Table::with_limit(heap, limits.imports)?;
         let exports = Table::with_limit(heap, limits.exports)?;
         let constants = Table::with_limit(heap, limits.constants)?;
-        let Limits { carriers, binds, names, .. } = limits;
+        let Limits {
+            carriers,
+            binds,
+            names,
+            ..
+        } = limits;
         Ok(Draft {
             mode: None,
             modules,

@@ -19,13 +19,23 @@ use std::alloc::AllocError;
 use std::alloc::Global;
 
 impl References {
-    pub(crate) fn with_limits(heap: Global, reads: u16, members: u16) -> Result<References, AllocError>
+    pub(crate) fn with_limits(
+        heap: Global,
+        reads: u16,
+        members: u16,
+    ) -> Result<References, AllocError>
         ensures { λ r. ⌜ made r (λ t. (vec-items (t .rows) ≡ []) × (t .«reads_limit» ≡ reads) × (t .«members_limit» ≡ members)) ⌝ }
     {
         let reads_limit = usize::from(reads);
         let members_limit = usize::from(members);
         let rows = Vec::with_capacity(heap, reads_limit + members_limit)?;
-        Ok(References { rows, reads: 0, members: 0, reads_limit, members_limit })
+        Ok(References {
+            rows,
+            reads: 0,
+            members: 0,
+            reads_limit,
+            members_limit,
+        })
     }
 
     // One `reads` row more, unless there are as many as there can be.

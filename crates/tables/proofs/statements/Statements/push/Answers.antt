@@ -27,7 +27,7 @@ returns c =
     record {
       value = more (statements-of s) (s .modules .limit) (c .len-n .result) long (c .if-n-self .left);
       after = ap (λ l. map (statement-at l ws) (counting 0 (length l))) (c .push-reserved .ensures .items)
-        ∙ rows-push ms (vec-items (s .included)) ws (c .args .row) (ap (λ j. flag-at ws j) n ∙ c .push-flag .ensures .here) (λ k ne. c .push-flag .ensures .others k (λ e. ne (e ∙ sym n)));
+          ∙ rows-push ms (vec-items (s .included)) ws (c .args .row) (ap (λ j. flag-at ws j) n ∙ c .push-flag .ensures .here) (λ k ne. c .push-flag .ensures .others k (λ e. ne (e ∙ sym n)));
       limit = refl;
       refused = accepted;
     }

@@ -1,0 +1,4 @@
+pub mod Cuts
+pub mod FirstBytes
+pub mod Numbers
+pub mod Words
