@@ -1,15 +1,15 @@
 // A book as it is read, byte by byte.
 
-use line::LineBuffer;
 use line::LoadKind;
+use parts::FaultLine;
+use parts::FaultLineDisplay;
+use parts::LineBuffer;
 use std::alloc::AllocError;
 use std::alloc::Global;
 use std::io;
 use tables::Draft;
 use tables::Limits;
 use tables::Taken;
-use text::FaultLine;
-use text::FaultLineDisplay;
 
 #[derive(Drop)]
 pub struct Book {

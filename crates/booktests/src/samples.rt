@@ -13,14 +13,14 @@ use line::RecordRow;
 use line::StatementRow;
 use line::SymbolRow;
 use line::UsesRow;
-use text::ExportClass;
-use text::ExportsKind;
-use text::Imported;
-use text::InlineConstMode;
-use text::ModuleKind;
-use text::RecordKind;
-use text::Resolution;
-use text::WrapKind;
+use values::ExportClass;
+use values::ExportsKind;
+use values::Imported;
+use values::InlineConstMode;
+use values::ModuleKind;
+use values::RecordKind;
+use values::Resolution;
+use values::WrapKind;
 
 fn module() -> LoadRow {
     LoadRow::Module(ModuleRow {

@@ -8,7 +8,7 @@ use std::test::*;
 use tables::Draft;
 use tables::Limits;
 use tables::Taken;
-use text::ExportClass;
+use values::ExportClass;
 
 // The number of a row's refusal, or 0 where it is taken.
 fn load(draft: &mut Draft, row: LoadRow) -> u8 {

@@ -1,2 +1,3 @@
-pub mod Keeping
+pub mod Counts
+pub mod Cuts
 pub mod Splitting

@@ -8,14 +8,14 @@ use borrow.Author.Tests.{le-leb}
 use Rattle.std.specs.declared.option.Option.{Option}
 use Rattle.std.specs.declared.option.Option.the-variants.{Some, None}
 use Rattle.std.specs.declared.result.Result.the-variants.{Err}
-use Rattle.text.specs.declared.faults.LineFault.the-variants.{Form}
+use Rattle.parts.specs.declared.faults.LineFault.the-variants.{Form}
 use Rattle.line.specs.declared.kinds.AskKind.{AskKind}
 use Rattle.line.specs.declared.kinds.Kind.{Kind}
 use Rattle.line.specs.Shape.{question-word}
 use Rattle.line.specs.Lines.{either, ask-kinds, counted, asked, kind-of, counts, of-kind, split-of}
-use Rattle.text.specs.Parts.{front, after, parts, fields}
-use Rattle.text.specs.Values.{word-among}
-use Rattle.text.proofs.Cuts.{parts-next}
+use Rattle.parts.specs.Parts.{front, after, parts, fields}
+use Rattle.values.specs.Values.{word-among}
+use Rattle.line.proofs.Counts.{parts-next}
 
 -- which question is asked, by the first part
 pub asked-by : (bytes first : List ℕ) (o : Option AskKind) → first ≡ front bytes → o ≡ word-among question-word ask-kinds first → either o (counted (length (parts bytes)) ask-kinds) ≡ asked (parts bytes)

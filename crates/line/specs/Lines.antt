@@ -11,8 +11,8 @@ use Rattle.std.specs.declared.option.Option.{Option}
 use Rattle.std.specs.declared.option.Option.the-variants.{Some, None}
 use Rattle.std.specs.declared.result.Result.{Result}
 use Rattle.std.specs.declared.result.Result.the-variants.{Ok, Err}
-use Rattle.text.specs.declared.faults.LineFault.{LineFault}
-use Rattle.text.specs.declared.faults.LineFault.the-variants.{Form, Value}
+use Rattle.parts.specs.declared.faults.LineFault.{LineFault}
+use Rattle.parts.specs.declared.faults.LineFault.the-variants.{Form, Value}
 use Rattle.line.specs.declared.kinds.Kind.{Kind}
 use Rattle.line.specs.declared.kinds.Kind.the-variants as kind
 use Rattle.line.specs.declared.kinds.LoadKind.{LoadKind}
@@ -23,18 +23,18 @@ use Rattle.line.specs.declared.kinds.HostKind.{HostKind}
 use Rattle.line.specs.declared.kinds.HostKind.the-variants as host
 use Rattle.line.specs.declared.kinds.AskKind.{AskKind}
 use Rattle.line.specs.declared.kinds.AskKind.the-variants as ask
-use Rattle.text.specs.declared.values.InlineConstMode.the-variants as inline
-use Rattle.text.specs.declared.values.ExportsKind.the-variants as exports
-use Rattle.text.specs.declared.values.ModuleKind.the-variants as module-kind
-use Rattle.text.specs.declared.values.WrapKind.the-variants as wrap
-use Rattle.text.specs.declared.values.RecordKind.the-variants as record-kind
-use Rattle.text.specs.declared.values.ExportClass.the-variants as class
-use Rattle.text.specs.declared.values.Imported.the-variants as imported
-use Rattle.text.specs.declared.values.Resolution.the-variants as resolution
+use Rattle.values.specs.declared.values.InlineConstMode.the-variants as inline
+use Rattle.values.specs.declared.values.ExportsKind.the-variants as exports
+use Rattle.values.specs.declared.values.ModuleKind.the-variants as module-kind
+use Rattle.values.specs.declared.values.WrapKind.the-variants as wrap
+use Rattle.values.specs.declared.values.RecordKind.the-variants as record-kind
+use Rattle.values.specs.declared.values.ExportClass.the-variants as class
+use Rattle.values.specs.declared.values.Imported.the-variants as imported
+use Rattle.values.specs.declared.values.Resolution.the-variants as resolution
 use Rattle.line.specs.declared.rows.Target.{Target}
 use Rattle.line.specs.declared.rows.Target.the-variants as target
-use Rattle.text.specs.declared.values.TargetKind.{TargetKind}
-use Rattle.text.specs.declared.values.TargetKind.the-variants as target-kind
+use Rattle.values.specs.declared.values.TargetKind.{TargetKind}
+use Rattle.values.specs.declared.values.TargetKind.the-variants as target-kind
 use Rattle.line.specs.declared.rows.LoadRow.{LoadRow}
 use Rattle.line.specs.declared.rows.LoadRow.the-variants.{Mode, Module, Symbol, Record, Statement, Uses, Reads, Member, Import, Export, Constant}
 use Rattle.line.specs.declared.rows.MarkRow.{MarkRow}
@@ -46,8 +46,8 @@ use Rattle.line.specs.declared.rows.AskRow.the-variants as question
 use Rattle.line.specs.declared.rows.Row.{Row}
 use Rattle.line.specs.declared.rows.Row.the-variants.{Load, Mark, Host, Ask}
 use Rattle.line.specs.Shape.{FieldKind, is-value, shape, load-word, mark-word, host-word, question-word}
-use Rattle.text.specs.Parts.{front, after, fields}
-use Rattle.text.specs.Values.{word-among, number-of, optional-of, imported-of, flag-of, inline-of, module-kind-of, exports-of, wrap-of, record-kind-of, class-of, resolution-of, target-of}
+use Rattle.parts.specs.Parts.{front, after, fields}
+use Rattle.values.specs.Values.{word-among, number-of, optional-of, imported-of, flag-of, inline-of, module-kind-of, exports-of, wrap-of, record-kind-of, class-of, resolution-of, target-of}
 
 abbrev pub load-kinds : List LoadKind
 load-kinds = load.Mode ∷ load.Module ∷ load.Symbol ∷ load.Record ∷ load.Statement ∷ load.Uses ∷ load.Reads ∷ load.Member ∷ load.Import ∷ load.Export ∷ load.Constant ∷ []

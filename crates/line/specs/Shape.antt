@@ -15,7 +15,7 @@ use Rattle.line.specs.declared.kinds.AskKind.{AskKind}
 use Rattle.line.specs.declared.kinds.MarkKind.the-variants as mark
 use Rattle.line.specs.declared.kinds.HostKind.the-variants as host
 use Rattle.line.specs.declared.kinds.AskKind.the-variants as ask
-use Rattle.text.specs.Values.{number-of, optional-of, imported-of, flag-of, inline-of, module-kind-of, exports-of, wrap-of, record-kind-of, class-of, resolution-of, target-of}
+use Rattle.values.specs.Values.{number-of, optional-of, imported-of, flag-of, inline-of, module-kind-of, exports-of, wrap-of, record-kind-of, class-of, resolution-of, target-of}
 
 -- the kinds of values that a field can have to be
 pub data FieldKind : Type 0 where

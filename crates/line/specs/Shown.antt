@@ -3,7 +3,7 @@ use mathlib.Core.List.{List, [], _∷_}
 use Prim.Native.Nat.{ℕ}
 use Rattle.std.specs.declared.result.Result.{Result}
 use Rattle.std.specs.declared.result.Result.the-variants.{Ok, Err}
-use Rattle.text.specs.declared.faults.LineFault.{LineFault}
+use Rattle.parts.specs.declared.faults.LineFault.{LineFault}
 use Rattle.line.specs.declared.kinds.Kind.{Kind}
 use Rattle.line.specs.declared.kinds.Kind.the-variants as kind
 use Rattle.line.specs.declared.kinds.LoadKind.the-variants as load

@@ -1,7 +1,7 @@
 // The kinds of rows, and their words.
 
 ghost use Rattle.line.specs.Shape.{load-word, mark-word, host-word, question-word};
-use text::Spelled;
+use values::Spelled;
 
 #[derive(Clone, Copy)]
 pub enum LoadKind {

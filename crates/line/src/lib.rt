@@ -1,7 +1,6 @@
 // The lines of a graph book: from the bytes of a line to a typed row, or to the reason why the line is refused.
 
-mod buffer;
-mod buffers;
+mod fields;
 mod kinds;
 mod lines;
 mod loads;
@@ -11,7 +10,6 @@ mod rows;
 mod splits;
 mod words;
 
-pub use buffer::LineBuffer;
 pub use kinds::AskKind;
 pub use kinds::AskKindSpelled;
 pub use kinds::HostKind;

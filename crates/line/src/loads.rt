@@ -20,18 +20,18 @@ use crate::rows::Row;
 use crate::rows::StatementRow;
 use crate::rows::SymbolRow;
 use crate::rows::UsesRow;
-use text::LineFault;
-use text::export_class;
-use text::exports_kind;
-use text::flag;
-use text::imported_name;
-use text::inline_mode;
-use text::module_kind;
-use text::number;
-use text::optional;
-use text::record_kind;
-use text::resolved;
-use text::wrap_kind;
+use parts::LineFault;
+use values::export_class;
+use values::exports_kind;
+use values::flag;
+use values::imported_name;
+use values::inline_mode;
+use values::module_kind;
+use values::number;
+use values::optional;
+use values::record_kind;
+use values::resolved;
+use values::wrap_kind;
 
 fn mode_row(strict: &[u8], inline: &[u8]) -> Result<Row, LineFault>
     ensures { λ r. ⌜ r ≡ read-as (every.Load loads.Mode) (now (strict .entry) ∷ now (inline .entry) ∷ []) ⌝ }

@@ -5,7 +5,7 @@ ghost use mathlib.Core.List.{List, [], _∷_};
 ghost use Rattle.std.specs.shelf.Text.{sameBytes};
 ghost use Rattle.std.specs.Results.{Cases};
 ghost use mathlib.Core.Bool.{true, false};
-ghost use Rattle.text.specs.declared.faults.LineFault.{LineFault};
+ghost use Rattle.parts.specs.declared.faults.LineFault.{LineFault};
 ghost use Rattle.line.specs.declared.kinds.Kind.the-variants as every;
 ghost use Rattle.line.specs.declared.kinds.MarkKind.the-variants as marks;
 ghost use Rattle.line.specs.declared.kinds.AskKind.the-variants as asks;
@@ -19,12 +19,12 @@ use crate::rows::HostRow;
 use crate::rows::MarkRow;
 use crate::rows::Row;
 use crate::rows::Target;
-use text::LineFault;
-use text::TargetKind;
-use text::flag;
-use text::is;
-use text::number;
-use text::target_kind;
+use parts::LineFault;
+use values::TargetKind;
+use values::flag;
+use values::is;
+use values::number;
+use values::target_kind;
 
 fn wrapped_row(module: &[u8], symbol: &[u8]) -> Result<Row, LineFault>
     ensures { λ r. ⌜ r ≡ read-as (every.Mark marks.Wrapped) (now («module» .entry) ∷ now (symbol .entry) ∷ []) ⌝ }

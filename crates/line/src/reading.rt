@@ -1,6 +1,7 @@
 // A line, read whole.
 
 ghost use mathlib.Core.Path.{_≡_};
+ghost use lib.ListN.{take};
 ghost use Rattle.line.specs.Lines.{read-as, row-of};
 ghost use Rattle.line.specs.Shown.{shown};
 use crate::lines::Line;
@@ -10,7 +11,7 @@ use crate::marks::host_row;
 use crate::marks::mark_row;
 use crate::rows::Row;
 use crate::splits::split;
-use text::LineFault;
+use parts::LineFault;
 
 impl Line<'_> {
     // The row that the parts of a line write.
@@ -26,9 +27,10 @@ impl Line<'_> {
     }
 }
 
-// The row that a line is, whatever its bytes, or its refusal.
+// The row that a line is, whatever its bytes, or its refusal. Its first 128 bytes decide, so that no reader need keep more.
 pub fn read(bytes: &[u8]) -> Result<Row, LineFault>
-    ensures { λ r. ⌜ r ≡ row-of (now (bytes .entry)) ⌝ }
+    ensures value { λ r. ⌜ r ≡ row-of (now (bytes .entry)) ⌝ }
+    ensures cut { λ r. ⌜ r ≡ row-of (take 128 (now (bytes .entry))) ⌝ }
 {
     let line = split(bytes)?;
     line.row()

@@ -1,13 +1,13 @@
 // The rows of a graph book, once their fields have been read.
 
-use text::ExportClass;
-use text::ExportsKind;
-use text::Imported;
-use text::InlineConstMode;
-use text::ModuleKind;
-use text::RecordKind;
-use text::Resolution;
-use text::WrapKind;
+use values::ExportClass;
+use values::ExportsKind;
+use values::Imported;
+use values::InlineConstMode;
+use values::ModuleKind;
+use values::RecordKind;
+use values::Resolution;
+use values::WrapKind;
 
 // The numbers of rows: a row's place among the rows of its word, from 0.
 pub type ModuleIdx = u16;

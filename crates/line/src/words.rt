@@ -2,12 +2,12 @@
 
 ghost use mathlib.Core.Path.{_≡_};
 ghost use Rattle.std.specs.declared.option.Option.the-variants.{Some};
-ghost use Rattle.text.specs.Values.{word-among};
+ghost use Rattle.values.specs.Values.{word-among};
 ghost use Rattle.line.specs.Lines.{load-kinds};
 ghost use Rattle.line.specs.Shape.{load-word};
 use crate::kinds::LoadKind;
 use crate::kinds::LoadKindSpelled;
-use text::Spelled;
+use values::Spelled;
 
 impl LoadKind {
     // The word of the kind's rows, by which a line is known to be one of them.

@@ -1,8 +1,8 @@
 -- What each refusal tells, layer by layer.
 use Rattle.std.specs.declared.option.Option.the-variants.{None}
-use Rattle.text.specs.declared.faults.Told.{Told}
-use Rattle.text.specs.declared.faults.Layer.the-variants as layer
-use Rattle.text.specs.Faults.{line-told}
+use Rattle.parts.specs.declared.faults.Told.{Told}
+use Rattle.parts.specs.declared.faults.Layer.the-variants as layer
+use Rattle.parts.specs.Faults.{line-told}
 use Rattle.tables.specs.declared.faults.RowFault.{RowFault}
 use Rattle.tables.specs.declared.faults.RowFault.the-variants.{Line, Full, Twice}
 use Rattle.tables.specs.declared.faults.BookFault.{BookFault}

@@ -3,7 +3,7 @@ use mathlib.Core.List.{List}
 use Prim.Native.Nat.{ℕ}
 use Rattle.std.specs.declared.result.Result.{Result}
 use Rattle.std.specs.declared.result.Result.the-variants.{Ok, Err}
-use Rattle.text.specs.declared.faults.LineFault.{LineFault}
+use Rattle.parts.specs.declared.faults.LineFault.{LineFault}
 use Rattle.line.specs.declared.rows.Row.{Row as AnyRow}
 use Rattle.line.specs.declared.rows.Row.the-variants as row
 use Rattle.line.specs.Lines.{row-of}

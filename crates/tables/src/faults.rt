@@ -4,9 +4,9 @@ ghost use mathlib.Core.Path.{_≡_};
 ghost use Rattle.tables.specs.declared.faults.BookFault.the-variants.{Row};
 ghost use Rattle.tables.specs.declared.faults.RowFault.the-variants.{Line};
 ghost use Rattle.tables.specs.Faults.{row-told, book-told};
-use text::Layer;
-use text::LineFault;
-use text::Told;
+use parts::Layer;
+use parts::LineFault;
+use parts::Told;
 
 #[derive(Clone, Copy)]
 pub enum RowFault {

@@ -1,7 +1,7 @@
 use mathlib.Core.Path.{_≡_, sym, ap, _∙_}
 use lib.ListN.{length}
 use Rattle.line.specs.Lines.{asked, counted, ask-kinds}
-use Rattle.text.specs.Parts.{fields, seen}
+use Rattle.parts.specs.Parts.{fields, seen}
 use Rattle.line.proofs.Splitting.{asked-by}
 use Rattle.line.proofs.splits.ask_kind.Needs as need
 

@@ -1,8 +1,0 @@
--- What a line buffer keeps.
-use mathlib.Core.List.{List}
-use Prim.Native.Nat.{ℕ}
-use lib.ListN.{take}
-use Rattle.line.specs.declared.buffer.LineBuffer.{LineBuffer}
-
-abbrev pub held : LineBuffer → List ℕ
-held b = take (b .len) (b .kept)

@@ -1,4 +1,0 @@
-pub mod Cuts
-pub mod FirstBytes
-pub mod Numbers
-pub mod Words
