@@ -12,7 +12,7 @@ use tables::Limits;
 use tables::Taken;
 
 #[derive(Drop)]
-pub struct Book {
+pub(crate) struct Book {
     draft: Draft,
     line: LineBuffer,
     lines: u64,
@@ -21,7 +21,7 @@ pub struct Book {
 }
 
 impl Book {
-    pub fn new(heap: Global) -> Result<Book, AllocError> {
+    pub(crate) fn new(heap: Global) -> Result<Book, AllocError> {
         let draft = Draft::new(heap, Limits::full())?;
         Ok(Book {
             draft,
@@ -33,7 +33,7 @@ impl Book {
     }
 
     // A line feed ends a line; any other byte belongs to it.
-    pub fn feed(&mut self, rt: &LibcRuntime, piece: &[u8]) -> io::Result<()> {
+    pub(crate) fn feed(&mut self, rt: &LibcRuntime, piece: &[u8]) -> io::Result<()> {
         for b in piece {
             if *b == b'\n' {
                 self.end_line(rt)?;
@@ -62,7 +62,7 @@ impl Book {
     }
 
     // A last line without a line feed counts if it has a byte.
-    pub fn end(&mut self, rt: &LibcRuntime) -> io::Result<()> {
+    pub(crate) fn end(&mut self, rt: &LibcRuntime) -> io::Result<()> {
         if !self.line.bytes().is_empty() {
             self.end_line(rt)?;
         }

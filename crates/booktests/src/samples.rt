@@ -35,7 +35,7 @@ fn module() -> LoadRow {
     })
 }
 
-pub fn import(module: u16, local: u16) -> LoadRow {
+pub(crate) fn import(module: u16, local: u16) -> LoadRow {
     LoadRow::Import(ImportRow {
         module,
         local,
@@ -45,7 +45,7 @@ pub fn import(module: u16, local: u16) -> LoadRow {
     })
 }
 
-pub fn export(module: u16, name: u16, class: ExportClass) -> LoadRow {
+pub(crate) fn export(module: u16, name: u16, class: ExportClass) -> LoadRow {
     LoadRow::Export(ExportRow {
         module,
         name,
@@ -56,7 +56,7 @@ pub fn export(module: u16, name: u16, class: ExportClass) -> LoadRow {
     })
 }
 
-pub fn constant(symbol: u16, safe: bool) -> LoadRow {
+pub(crate) fn constant(symbol: u16, safe: bool) -> LoadRow {
     LoadRow::Constant(ConstantRow {
         symbol,
         commonjs: false,
@@ -64,7 +64,7 @@ pub fn constant(symbol: u16, safe: bool) -> LoadRow {
     })
 }
 
-pub fn sample(kind: LoadKind, i: u16) -> LoadRow {
+pub(crate) fn sample(kind: LoadKind, i: u16) -> LoadRow {
     match kind {
         LoadKind::Mode => LoadRow::Mode(ModeRow {
             strict: true,

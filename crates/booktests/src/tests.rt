@@ -4,6 +4,7 @@ use crate::samples::import;
 use crate::samples::sample;
 use line::LoadKind;
 use line::LoadRow;
+use line::StatementRow;
 use std::test::*;
 use tables::Draft;
 use tables::Limits;
@@ -113,4 +114,17 @@ fn lines_of_a_draft(rt: LibcRuntime) -> Result<(), Fail> {
     check_eq(load_text(&mut draft, b"carrier,0,1,1"), (100, 0))?;
     check_eq(draft.count(LoadKind::Mode), 1)?;
     check_eq(draft.count(LoadKind::Constant), 1)
+}
+
+#[test]
+fn included_flags(rt: LibcRuntime) -> Result<(), Fail> {
+    let mut draft = Draft::new(rt.alloc(), Limits::full())?;
+    // every third statement is included, across several words of flags
+    for i in 0..100u16 {
+        check_eq(load(&mut draft, LoadRow::Statement(StatementRow { module: 0, included: i % 3 == 0 })), 0)?;
+    }
+    for i in 0..100u16 {
+        check_eq(draft.included(i), i % 3 == 0)?;
+    }
+    check_eq(draft.included(100), false)
 }

@@ -2,13 +2,15 @@
 
 ghost use mathlib.Core.List.{List, [], _∷_, _++_};
 ghost use mathlib.Core.Path.{_≡_};
+ghost use Prim.Native.Nat.{ℕ};
 ghost use lib.ListN.{take};
-ghost use Rattle.parts.specs.Held.{held};
+ghost use Rattle.parts.specs.Held.{held, Keeps};
 use crate::buffer::LineBuffer;
 
 impl LineBuffer {
     pub fn new() -> LineBuffer
-        ensures { λ r. ⌜ held r ≡ [] ⌝ }
+        ensures value { λ r. ⌜ held r ≡ [] ⌝ }
+        ensures begins { λ r. ⌜ Keeps [] r ⌝ }
     {
         LineBuffer {
             kept: [0; 128],
@@ -16,9 +18,10 @@ impl LineBuffer {
         }
     }
 
-    // One byte more of the line, which is kept if there is room.
+    // One byte more of the line, which is kept if there is room. Of a text, that is any byte but a line feed.
     pub fn push(&mut self, b: u8)
-        ensures { λ _. ⌜ held (now (self .exit)) ≡ take 128 (held (now (self .entry)) ++ b ∷ []) ⌝ }
+        ensures value { λ _. ⌜ held (now (self .exit)) ≡ take 128 (held (now (self .entry)) ++ b ∷ []) ⌝ }
+        ensures goes { λ _. ⌜ ((text : List ℕ) → (b ≡ 10 → ⊥) → Keeps text (now (self .entry)) → Keeps (text ++ b ∷ []) (now (self .exit))) ⌝ }
     {
         if self.len < 128 {
             self.kept[self.len] = b;
@@ -26,9 +29,10 @@ impl LineBuffer {
         }
     }
 
-    // The line begins anew.
+    // The line begins anew, as it does after a line feed.
     pub fn clear(&mut self)
-        ensures { λ _. ⌜ held (now (self .exit)) ≡ [] ⌝ }
+        ensures value { λ _. ⌜ held (now (self .exit)) ≡ [] ⌝ }
+        ensures goes { λ _. ⌜ ((text : List ℕ) → Keeps (text ++ 10 ∷ []) (now (self .exit))) ⌝ }
     {
         self.len = 0;
     }

@@ -5,6 +5,7 @@ pub mod Graph
 pub mod Limits
 pub mod Lines
 pub mod Load
+pub mod Lookups
 pub mod References
 pub mod Room
 pub mod View
