@@ -121,7 +121,16 @@ fn included_flags(rt: LibcRuntime) -> Result<(), Fail> {
     let mut draft = Draft::new(rt.alloc(), Limits::full())?;
     // every third statement is included, across several words of flags
     for i in 0..100u16 {
-        check_eq(load(&mut draft, LoadRow::Statement(StatementRow { module: 0, included: i % 3 == 0 })), 0)?;
+        check_eq(
+            load(
+                &mut draft,
+                LoadRow::Statement(StatementRow {
+                    module: 0,
+                    included: i % 3 == 0,
+                }),
+            ),
+            0,
+        )?;
     }
     for i in 0..100u16 {
         check_eq(draft.included(i), i % 3 == 0)?;
