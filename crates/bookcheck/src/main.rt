@@ -1,5 +1,7 @@
 // bookcheck: reads a graph book, names each bad line, and says what it took.
 
+#![tactic(auto)]
+
 mod book;
 
 use crate::book::Book;

@@ -1,5 +1,7 @@
 // What a refusal tells, and how it is printed.
 
+#![tactic(auto)]
+
 mod links;
 mod printed;
 mod told;

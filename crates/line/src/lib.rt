@@ -1,5 +1,7 @@
 // The lines of a graph book: from the bytes of a line to a typed row, or to the reason why the line is refused.
 
+#![tactic(auto)]
+
 mod fields;
 mod kinds;
 mod lines;

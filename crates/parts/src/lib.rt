@@ -1,5 +1,7 @@
 // The parts of a line between its commas, the line that is being read, and what a refusal tells.
 
+#![tactic(auto)]
+
 mod buffer;
 mod buffers;
 mod faults;

@@ -1,5 +1,7 @@
 // The export surface of a book: what ResolveExport and GetExportedNames of ECMA-262 give for each of its modules.
 
+#![tactic(auto)]
+
 mod entries;
 mod fills;
 mod item;

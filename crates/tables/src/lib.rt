@@ -1,5 +1,7 @@
 // The tables of a draft, and the graph that they hold.
 
+#![tactic(auto)]
+
 mod counts;
 mod draft;
 mod faults;

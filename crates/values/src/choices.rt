@@ -17,7 +17,7 @@ pub trait Spelled {
 
 // The first of some values whose word this is.
 pub fn find_word<T: Spelled + Copy>(all: &[T], part: &[u8]) -> Option<T>
-    ensures { result ≡ word_among spelling all.now part.now }
+    ensures { result ≡ word_among T.spelling all.now part.now }
 {
     for value in all {
         if is(part, value.spelled().as_bytes()) {
@@ -29,7 +29,7 @@ pub fn find_word<T: Spelled + Copy>(all: &[T], part: &[u8]) -> Option<T>
 
 // The value that a field writes; one that is none of them refuses the line.
 pub fn choice<T: Spelled + Copy>(all: &[T], part: &[u8], field: u8) -> Result<T, LineFault>
-    ensures { MatchResult result (λ v. word_among spelling all.now part.now ≡ Some v) (λ e. (e ≡ LineFault.Value field) × (word_among spelling all.now part.now ≡ None)) }
+    ensures { MatchResult result (λ v. word_among T.spelling all.now part.now ≡ Some v) (λ e. (e ≡ LineFault.Value field) × (word_among T.spelling all.now part.now ≡ None)) }
 {
     match find_word(all, part) {
         Some(value) => Ok(value),

@@ -1,5 +1,7 @@
 // The values that the fields of a line can be: numbers, flags and words.
 
+#![tactic(auto)]
+
 mod choices;
 mod matches;
 mod scalars;

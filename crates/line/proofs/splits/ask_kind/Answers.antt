@@ -11,6 +11,6 @@ returns-in-Some-question c =
 
 pub returns : goal.returns
 returns c =
-    c.question-with.ensures ∙ ap (λ n. counted n ask_kinds) c.count.ensures
-    ∙ asked_by c.in-Some.bytes.now _ _ c.field.ensures.first c.in-default-question.ensures
+    c.question_with.ensures ∙ ap (λ n. counted n ask_kinds) c.count.ensures
+    ∙ asked_by c.in-Some.bytes.now _ _ c.field.ensures.first c.in_default-question.ensures
     ∙ sym (ap (λ o. asked (fields (seen o))) c.in-Some.is)

@@ -13,9 +13,9 @@ returns c =
     -- the words that are written to have the flags that there were, and enough words
     let padded : (vec_len now ≡ (n + 32) / 32) × (vec_capacity now ≡ vec_capacity old) × ((k : ℕ) → flag_at (vec_items now) k ≡ flag_at (vec_items old) k) = elim c.if-n-eq0.branch [
       | then-n-eq0 w ↦ (
-        ap vec_len w.words-is ∙ omega (arith, w.push-reserved.ensures.len, w.if-n-eq0.true, c.requires.words),
-        ap vec_capacity w.words-is ∙ w.push-reserved.ensures.capacity,
-        λ k. ap (λ l. flag_at l k) (ap vec_items w.words-is ∙ w.push-reserved.ensures.items) ∙ flag_padded (vec_items old) k,
+        ap vec_len w.words-is ∙ omega (arith, w.push_reserved.ensures.len, w.if-n-eq0.true, c.requires.words),
+        ap vec_capacity w.words-is ∙ w.push_reserved.ensures.capacity,
+        λ k. ap (λ l. flag_at l k) (ap vec_items w.words-is ∙ w.push_reserved.ensures.items) ∙ flag_padded (vec_items old) k,
       )
       | else-n-eq0 w ↦ (
         ap vec_len w.words-is ∙ omega (arith, w.if-n-eq0.false, c.requires.words),
@@ -29,6 +29,6 @@ returns c =
     record {
       words = padded.0;
       room = padded.1;
-      here = flag_here (vec_items now) c.with-bit.result n lt ∙ c.with-bit.ensures.here;
-      others = λ k ne. flag_other (vec_items now) c.with-bit.result n lt (λ j away. c.with-bit.ensures.others j away ∙ ap (λ v. bit v j) word) k ne ∙ padded.2 k;
+      here = flag_here (vec_items now) c.with_bit.result n lt ∙ c.with_bit.ensures.here;
+      others = λ k ne. flag_other (vec_items now) c.with_bit.result n lt (λ j away. c.with_bit.ensures.others j away ∙ ap (λ v. bit v j) word) k ne ∙ padded.2 k;
     }

@@ -25,8 +25,8 @@ returns-in-Some c = ap (option_map Number) c.in-Some.ensures ∙ number_alone c.
 pub returns-in-None : goal.returns-in-None
 returns-in-None c = ap (option_map Number) c.in-None.ensures ∙ number_alone c.args.part.now (λ e. omega arith) (λ e. omega arith)
 
-pub returns-in-default : goal.returns-in-default
-returns-in-default c = nothing _ c.if-part-eq0.false (λ e. omega arith) (λ e. omega arith) (inl (omega arith))
+pub returns-in_default : goal.returns-in_default
+returns-in_default c = nothing _ c.if-part-eq0.false (λ e. omega arith) (λ e. omega arith) (inl (omega arith))
 
-pub returns-in-default·2 : goal.returns-in-default·2
-returns-in-default·2 c = nothing _ c.if-part-eq0.false (λ e. omega arith) (λ e. omega arith) (inr (omega arith))
+pub returns-in_default-2 : goal.returns-in_default-2
+returns-in_default-2 c = nothing _ c.if-part-eq0.false (λ e. omega arith) (λ e. omega arith) (inr (omega arith))

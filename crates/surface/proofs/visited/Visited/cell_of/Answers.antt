@@ -8,8 +8,8 @@ use Rattle.surface.proofs.visited.Visited.cell_of.Goals as goal
 same_cell : (a b n m x names : ℕ) → a ≡ m → n ≡ names → b ≡ x → a * n + b ≡ cell names m x
 same_cell a b n m x names p q r = ap (λ (i : ℕ). i * n + b) p ∙ ap (λ (i : ℕ). m * i + b) q ∙ ap (λ (i : ℕ). m * names + i) r
 
-pub overflow-mul-result : goal.overflow-mul-result
-overflow-mul-result c =
+pub overflow_mul-result : goal.overflow_mul-result
+overflow_mul-result c =
     let s = c.args.self.now in
     let x = c.args.item in
     let names = c.args.rows.now.names in
@@ -17,8 +17,8 @@ overflow-mul-result c =
     let is = same_cell c.from.result x.name c.names.result x.«module» x.name names c.from.ensures c.names.ensures refl in
     omega (arith, lt, is, s.stamps.ok.0, s.stamps.small)
 
-pub overflow-add-result : goal.overflow-add-result
-overflow-add-result c =
+pub overflow_add-result : goal.overflow_add-result
+overflow_add-result c =
     let s = c.args.self.now in
     let x = c.args.item in
     let names = c.args.rows.now.names in

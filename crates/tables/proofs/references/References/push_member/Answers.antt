@@ -2,13 +2,13 @@ use Rattle.std.proofs.Common.{vec_items, ◌∙◌, arith}
 use Rattle.tables.proofs.Counting.{count_both, members_more}
 use Rattle.tables.proofs.references.References.push_member.Goals as goal
 
-pub push-reserved-requires : goal.push-reserved-requires
-push-reserved-requires c =
+pub push_reserved-requires : goal.push_reserved-requires
+push_reserved-requires c =
     let s = c.args.self.now in
     omega (arith, s.rows.ok.0, count_both (vec_items s.rows), s.reads_counted, s.members_counted, s.reads_within, s.members_within, s.room)
 
-pub invariant-of-self : goal.invariant-of-self
-invariant-of-self c =
+pub invariant_of-self : goal.invariant_of-self
+invariant_of-self c =
     let s = c.args.self.now in
-    let more = members_more (vec_items s.rows) (vec_items c.push-reserved.new.self) c.args.row c.push-reserved.ensures.items in
-    (omega (arith, more.0, s.reads_counted), (omega (arith, more.1, s.members_counted), (omega (arith, s.reads_within), (omega (arith, s.members_within), (omega (arith, c.push-reserved.ensures.capacity, s.room), tt)))))
+    let more = members_more (vec_items s.rows) (vec_items c.push_reserved.new.self) c.args.row c.push_reserved.ensures.items in
+    (omega (arith, more.0, s.reads_counted), (omega (arith, more.1, s.members_counted), (omega (arith, s.reads_within), (omega (arith, s.members_within), (omega (arith, c.push_reserved.ensures.capacity, s.room), tt)))))

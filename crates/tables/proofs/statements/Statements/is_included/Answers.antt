@@ -12,5 +12,5 @@ returns-then-statement-len c =
 pub returns : goal.returns
 returns c =
     let s = c.args.self.now in
-    c.flag.ensures ∙ ap (λ ws. flag_at ws c.args.statement) c.as-slice.ensures.value
+    c.flag.ensures ∙ ap (λ ws. flag_at ws c.args.statement) c.as_slice.ensures.value
     ∙ row_flag (rows_of s.modules) (vec_items s.included) no_statement c.args.statement (omega (arith, s.modules.rows.ok.0))

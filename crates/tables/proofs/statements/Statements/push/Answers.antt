@@ -17,13 +17,13 @@ pub returns : goal.returns
 returns c =
     let s = c.args.self.now in
     let ms = rows_of s.modules in
-    let ws = vec_items c.push-flag.new.words in
+    let ws = vec_items c.push_flag.new.words in
     let n : length ms ≡ c.len-n.result = sym (c.len-n.ensures ∙ s.modules.rows.ok.0) in
     let long : length (statements_of s) ≡ c.len-n.result = length-map-range_with_len _ 0 _ ∙ n in
     record {
       value = more (statements_of s) s.modules.limit c.len-n.result long c.if-n-self.false;
-      after = ap (λ l. map (statement_at l ws) (range_with_len 0 (length l))) c.push-reserved.ensures.items
-          ∙ rows_push ms (vec_items s.included) ws c.args.row (ap (λ j. flag_at ws j) n ∙ c.push-flag.ensures.here) (λ k ne. c.push-flag.ensures.others k (λ e. ne (e ∙ sym n)));
+      after = ap (λ l. map (statement_at l ws) (range_with_len 0 (length l))) c.push_reserved.ensures.items
+          ∙ rows_push ms (vec_items s.included) ws c.args.row (ap (λ j. flag_at ws j) n ∙ c.push_flag.ensures.here) (λ k ne. c.push_flag.ensures.others k (λ e. ne (e ∙ sym n)));
       limit = refl;
       refused = accepted;
     }
