@@ -56,7 +56,7 @@ impl<T: Copy> Table<T> {
 
 // Whether one of the rows is the same as this.
 fn has_same<T: Distinct>(rows: &[T], row: &T) -> bool
-    ensures { result ≡ any (same row.now) rows.now }
+    ensures { result ≡ any (T.same row.now) rows.now }
 {
     for other in rows {
         if row.is_same(other) {
@@ -69,7 +69,7 @@ fn has_same<T: Distinct>(rows: &[T], row: &T) -> bool
 impl<T: Distinct + Copy> Table<T> {
     // One row more, unless the table is at its limit, or has a row that is the same.
     pub(crate) fn push_once(&mut self, row: T) -> Result<(), RowFault>
-        ensures value { result ≡ fits_once (same row) (rows_of self.old) (limit_of self.old) }
+        ensures value { result ≡ fits_once (T.same row) (rows_of self.old) (limit_of self.old) }
         ensures after { rows_of self.new ≡ (if is_ok result then rows_of self.old ++ row ∷ [] else rows_of self.old) }
         ensures limit { limit_of self.new ≡ limit_of self.old }
         ensures refused { is_ok result ≡ false → self.new ≡ self.old }

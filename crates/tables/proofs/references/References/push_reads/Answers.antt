@@ -11,4 +11,10 @@ pub invariant_of-self : goal.invariant_of-self
 invariant_of-self c =
     let s = c.args.self.now in
     let more = reads_more (vec_items s.rows) (vec_items c.push_reserved.new.self) c.args.row c.push_reserved.ensures.items in
-    (omega (arith, more.0, s.reads_counted), (omega (arith, more.1, s.members_counted), (omega (arith, s.reads_within), (omega (arith, s.members_within), (omega (arith, c.push_reserved.ensures.capacity, s.room), tt)))))
+    record {
+      reads_counted = omega (arith, more.0, s.reads_counted);
+      members_counted = omega (arith, more.1, s.members_counted);
+      reads_within = omega (arith, s.reads_within);
+      members_within = omega (arith, s.members_within);
+      room = omega (arith, c.push_reserved.ensures.capacity, s.room);
+    }
