@@ -11,23 +11,23 @@ pub loop-n-init : goal.loop-n-init
 loop-n-init c = adding_none (graph c.args.rows.now) c.args.rows.now.names c.args.«module» c.args.self.now c.args.visited.now c.requires.few c.requires.ready c.requires.fresh
 
 -- the first stamp, by the numbers that it is made of
-first-is : (a n m names : ℕ) → a ≡ m → n ≡ names → a * n ≡ m * names
-first-is a n m names p q = ap (λ (i : ℕ). i * n) p ∙ ap (λ (i : ℕ). m * i) q
+first_is : (a n m names : ℕ) → a ≡ m → n ≡ names → a * n ≡ m * names
+first_is a n m names p q = ap (λ (i : ℕ). i * n) p ∙ ap (λ (i : ℕ). m * i) q
 
 pub resolve-found-requires : goal.resolve-found-requires
 resolve-found-requires c =
     let names = c.args.rows.now.names in
-    let is = first-is c.from.result c.names.result c.args.«module» names c.from.ensures c.names.ensures in
+    let is = first_is c.from.result c.names.result c.args.«module» names c.from.ensures c.names.ensures in
     record {
       ready = c.loop-n.invariant.ready;
       below = c.requires.below;
-      module-within = normal_in (graph c.args.rows.now) c.args.«module» c.requires.normal;
-      name-within = omega (arith, c.loop-n-test.true, c.names-n-end.ensures);
+      module_within = normal_in (graph c.args.rows.now) c.args.«module» c.requires.normal;
+      name_within = omega (arith, c.loop-n-test.true, c.names-n-end.ensures);
       fresh = λ i. omega (arith, is, c.loop-n.invariant.used i);
     }
 
-pub add-name-requires : goal.add-name-requires
-add-name-requires c =
+pub add_name-requires : goal.add_name-requires
+add_name-requires c =
     let names = c.args.rows.now.names in
     let m = c.args.«module» in
     let lt : c.loop-n.n < names = omega (arith, c.loop-n-test.true, c.names-n-end.ensures) in
@@ -38,10 +38,10 @@ loop-n-preserved c =
     let g = graph c.args.rows.now in
     let names = c.args.rows.now.names in
     let m = c.args.«module» in
-    let is = first-is c.from.result c.names.result m names c.from.ensures c.names.ensures in
-    adding_more g names m c.loop-n.n c.args.self.now c.loop-n.self c.add-name.new.self c.loop-n.visited c.resolve-found.new.self c.loop-n.invariant
-    (c.add-name.ensures.rows ∙ ap (λ r. vec_items c.loop-n.self.rows ++ row_of c.loop-n.n r) c.resolve-found.ensures.value)
-    c.add-name.ensures.long c.add-name.ensures.room c.add-name.ensures.starts c.resolve-found.ensures.long c.resolve-found.ensures.others.0 c.resolve-found.ensures.others.1
+    let is = first_is c.from.result c.names.result m names c.from.ensures c.names.ensures in
+    adding_more g names m c.loop-n.n c.args.self.now c.loop-n.self c.add_name.new.self c.loop-n.visited c.resolve-found.new.self c.loop-n.invariant
+    (c.add_name.ensures.rows ∙ ap (λ r. vec_items c.loop-n.self.rows ++ row_of c.loop-n.n r) c.resolve-found.ensures.value)
+    c.add_name.ensures.long c.add_name.ensures.room c.add_name.ensures.starts c.resolve-found.ensures.long c.resolve-found.ensures.others.0 c.resolve-found.ensures.others.1
     (λ i. omega (arith, is, c.resolve-found.ensures.used i))
 
 pub returns : goal.returns

@@ -34,7 +34,7 @@ returns c =
     let within : t.next < length rs = omega (arith, c.if-next-records.false) in
     let read : r ≡ get_or rs t.next r = get_or_default rs t.next 0 r within in
     record {
-      value = ap (λ o. searched o d f) c.next-item-current.ensures ∙ on g t top rs d f is c.stars-records.ensures r within read;
+      value = ap (λ o. searched o d f) c.next_item-current.ensures ∙ on g t top rs d f is c.stars-records.ensures r within read;
       frames = on_frames g t top rs d f is c.stars-records.ensures (vec_items s.frames) r within read;
       others = (refl, refl, refl);
     }

@@ -13,7 +13,7 @@ overflow_mul-result c =
     let s = c.args.self.now in
     let x = c.args.item in
     let names = c.args.rows.now.names in
-    let lt = cell_below (length (graph c.args.rows.now).modules) names (vec_len s.stamps) x.«module» x.name c.requires.module-within c.requires.name-within c.requires.ready.room in
+    let lt = cell_below (length (graph c.args.rows.now).modules) names (vec_len s.stamps) x.«module» x.name c.requires.module_within c.requires.name_within c.requires.ready.room in
     let is = same_cell c.from.result x.name c.names.result x.«module» x.name names c.from.ensures c.names.ensures refl in
     omega (arith, lt, is, s.stamps.ok.0, s.stamps.small)
 
@@ -22,7 +22,7 @@ overflow_add-result c =
     let s = c.args.self.now in
     let x = c.args.item in
     let names = c.args.rows.now.names in
-    let lt = cell_below (length (graph c.args.rows.now).modules) names (vec_len s.stamps) x.«module» x.name c.requires.module-within c.requires.name-within c.requires.ready.room in
+    let lt = cell_below (length (graph c.args.rows.now).modules) names (vec_len s.stamps) x.«module» x.name c.requires.module_within c.requires.name_within c.requires.ready.room in
     let is = same_cell c.from.result c.from-2.result c.names.result x.«module» x.name names c.from.ensures c.names.ensures c.from-2.ensures in
     omega (arith, lt, is, s.stamps.ok.0, s.stamps.small)
 
@@ -31,6 +31,6 @@ returns c =
     let s = c.args.self.now in
     let x = c.args.item in
     let names = c.args.rows.now.names in
-    let lt = cell_below (length (graph c.args.rows.now).modules) names (vec_len s.stamps) x.«module» x.name c.requires.module-within c.requires.name-within c.requires.ready.room in
+    let lt = cell_below (length (graph c.args.rows.now).modules) names (vec_len s.stamps) x.«module» x.name c.requires.module_within c.requires.name_within c.requires.ready.room in
     let is = same_cell c.from.result c.from-2.result c.names.result x.«module» x.name names c.from.ensures c.names.ensures c.from-2.ensures in
     record { value = is; within = omega (arith, lt, is) }

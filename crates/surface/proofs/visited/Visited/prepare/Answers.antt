@@ -6,8 +6,8 @@ use Rattle.surface.proofs.visited.Visited.prepare.Goals as goal
 pub loop-number-init : goal.loop-number-init
 loop-number-init c = notes_none (length (graph c.args.rows.now).modules) c.args.rows.now.names (graph c.args.rows.now).exports c.clear.new.self c.clear.ensures.stamps c.clear.ensures.locals c.clear.ensures.indirects
 
-pub note-entry-requires : goal.note-entry-requires
-note-entry-requires c =
+pub note_entry-requires : goal.note_entry-requires
+note_entry-requires c =
     let g = graph c.args.rows.now in
     let long : c.exports-number-end.result.now ≡ g.exports = c.exports-number-end.ensures in
     let lt : c.loop-number.number < length g.exports = omega (arith, c.loop-number-test.true, ap length long) in
@@ -20,8 +20,8 @@ loop-number-preserved c =
     let long : c.exports-number-end.result.now ≡ g.exports = c.exports-number-end.ensures in
     let lt : c.loop-number.number < length g.exports = omega (arith, c.loop-number-test.true, ap length long) in
     let room : length g.modules * c.args.rows.now.names ≤ vec_len c.clear.new.self.stamps = omega (arith, c.requires.room, c.clear.ensures.long) in
-    read_more g c.args.rows.now.names c.names-names.result c.loop-number.number c.export.result c.clear.new.self c.loop-number.self c.note-entry.new.self c.requires.exports room lt c.loop-number.invariant c.names-names.ensures c.export.ensures
-    c.note-entry.ensures.locals c.note-entry.ensures.indirects c.note-entry.ensures.stamps
+    read_more g c.args.rows.now.names c.names-names.result c.loop-number.number c.export.result c.clear.new.self c.loop-number.self c.note_entry.new.self c.requires.exports room lt c.loop-number.invariant c.names-names.ensures c.export.ensures
+    c.note_entry.ensures.locals c.note_entry.ensures.indirects c.note_entry.ensures.stamps
 
 pub returns : goal.returns
 returns c =

@@ -14,7 +14,7 @@ loop-state-init c =
     let names = c.args.rows.now.names in
     let answer = resolution names g c.args.«module» c.args.name in
     let P : Item → Type 0 = λ x. Keeps g names c.args.stamp c.args.self.now c.args.self.now (searched (Some x) 0 Null) answer in
-    subst P (sym c.first.ensures) (keeps_first g names c.args.stamp c.args.self.now c.args.«module» c.args.name c.requires.module-within c.requires.name-within c.requires.fresh)
+    subst P (sym c.first.ensures) (keeps_first g names c.args.stamp c.args.self.now c.args.«module» c.args.name c.requires.module_within c.requires.name_within c.requires.fresh)
 
 pub enter-state-requires : goal.enter-state-requires
 enter-state-requires c =
@@ -26,8 +26,8 @@ enter-state-requires c =
     let within = enter_within g names c.args.stamp c.requires.below old c.loop-state.self c.loop-state.state answer c.requires.ready c.loop-state.invariant x c.in-Some.is in
     record {
       ready = still_ready g names c.args.stamp old c.loop-state.self c.loop-state.state answer c.requires.ready c.loop-state.invariant;
-      module-within = within.«module»;
-      name-within = within.name;
+      module_within = within.«module»;
+      name_within = within.name;
       room = enter_room g names c.args.stamp c.requires.below old c.loop-state.self c.loop-state.state answer c.requires.ready c.loop-state.invariant x c.in-Some.is;
     }
 
