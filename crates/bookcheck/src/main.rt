@@ -7,6 +7,7 @@ mod book;
 use crate::book::Book;
 use anyhow::anyhow;
 use std::io::Read;
+use std::process::ExitCode;
 use std::{env, fs};
 
 const PIECE: usize = 65536;
@@ -51,10 +52,12 @@ fn run(rt: &HostRuntime) -> anyhow::Result<()> {
     }
 }
 
-fn main(rt: HostRuntime) -> anyhow::Result<()> {
-    let result = run(&rt);
-    if let Err(e) = &result {
-        eprintln!(rt; "bookcheck: {e}")?;
+fn main(rt: HostRuntime) -> ExitCode {
+    match run(&rt) {
+        Ok(()) => ExitCode::SUCCESS,
+        Err(e) => {
+            let _ = eprintln!(rt; "bookcheck: {e}");
+            ExitCode::FAILURE
+        }
     }
-    result
 }

@@ -1,6 +1,5 @@
 use crate::samples::{constant, export, import, sample};
 use line::{LoadKind, LoadRow, StatementRow};
-use std::process::Abort;
 use std::test::Fail;
 use tables::{Draft, Limits, Taken};
 use values::ExportClass;
@@ -25,13 +24,16 @@ fn load_text(draft: &mut Draft, line: &[u8]) -> (u8, u8) {
     }
 }
 
-// So many rows of a kind are taken, and one more is refused.
-fn fill(rt: &impl Abort, draft: &mut Draft, kind: LoadKind, limit: u16) {
+// Loads so many rows of a kind, and one more: the number of the first refusal, and how many rows there are then.
+fn fill(draft: &mut Draft, kind: LoadKind, limit: u16) -> (u8, usize) {
     for i in 0..limit {
-        assert_eq!(rt; load(draft, sample(kind, i)), 0);
+        let refusal = load(draft, sample(kind, i));
+        if refusal != 0 {
+            return (refusal, draft.count(kind));
+        }
     }
-    assert_eq!(rt; load(draft, sample(kind, limit)), 4);
-    assert_eq!(rt; draft.count(kind), usize::from(limit));
+    let refusal = load(draft, sample(kind, limit));
+    (refusal, draft.count(kind))
 }
 
 #[test]
@@ -51,7 +53,7 @@ fn full_limits(rt: HostRuntime) -> Result<(), Fail> {
         (LoadKind::Constant, 1024),
     ];
     for (kind, limit) in limits {
-        fill(&rt, &mut draft, kind, limit);
+        assert_eq!(rt; fill(&mut draft, kind, limit), (4, usize::from(limit)));
     }
     Ok(())
 }
@@ -73,7 +75,7 @@ fn small_limits(rt: HostRuntime) -> Result<(), Fail> {
         (LoadKind::Constant, 64),
     ];
     for (kind, limit) in limits {
-        fill(&rt, &mut draft, kind, limit);
+        assert_eq!(rt; fill(&mut draft, kind, limit), (4, usize::from(limit)));
     }
     // a table at its limit refuses before a duplicate is looked for
     assert_eq!(rt; load(&mut draft, import(0, 0)), 4);
