@@ -1,5 +1,5 @@
 -- The kind and the fields of a line, from its first part and what is left of it.
-use Rattle.std.proofs.Common.{◌≡◌, ℕ, ◌≤◌, cond, List, [], length, get_or, Some, None, Err, Option, sym, refl, ap, ◌∙◌, le-leb}
+use Rattle.std.proofs.Common.{◌≡◌, ℕ, ◌≤◌, cond, List, [], length, get_or, Some, Err, Option, sym, ap, ◌∙◌, le-leb}
 use Rattle.parts.specs.declared.faults.LineFault.TheVariants.{Form}
 use Rattle.line.specs.declared.kinds.AskKind.{AskKind}
 use Rattle.line.specs.declared.kinds.Kind.{Kind}

@@ -1,5 +1,5 @@
 -- Every kind of row: its word, and from left to right the kinds of its fields.
-use Rattle.std.specs.Prelude.{ℕ, Bool, true, false, cond, List, [], ◌∷◌, is_some, codes}
+use Rattle.std.specs.Prelude.{ℕ, Bool, List, [], ◌∷◌, is_some, codes}
 use Rattle.std.specs.Str.{bytes_eq}
 use Rattle.line.specs.declared.kinds.Kind.{Kind}
 use Rattle.line.specs.declared.kinds.Kind.TheVariants.{Load, Mark, Host, Ask}

@@ -1,6 +1,6 @@
 -- The export entries of a module, in the terms of ECMA-262 (2024), 16.2.1.6: a source text module has local, indirect and star export
 -- entries. Here an export row of class `local` is a local entry, one of class `indirect` or `all` an indirect entry, and a star record a star entry.
-use Rattle.std.specs.Prelude.{ℕ, suc, Bool, true, false, cond, not, ◌&&◌, List, [], ◌∷◌, ◌++◌, Some, None, Option, ◌==◌}
+use Rattle.std.specs.Prelude.{ℕ, suc, Bool, true, false, cond, not, ◌&&◌, List, [], ◌∷◌, Some, None, Option, ◌==◌}
 use Rattle.line.specs.declared.rows.ExportRow.{ExportRow}
 use Rattle.line.specs.declared.rows.RecordRow.{RecordRow}
 use Rattle.values.specs.declared.values.ExportClass.{ExportClass}
@@ -8,7 +8,7 @@ use Rattle.values.specs.declared.values.ExportClass.TheVariants as class
 use Rattle.values.specs.declared.values.ModuleKind.{ModuleKind}
 use Rattle.values.specs.declared.values.ModuleKind.TheVariants as module_kind
 use Rattle.tables.specs.Graph.{Graph}
-use Rattle.tables.specs.Lookups.{module_at, record_at, importee_of}
+use Rattle.tables.specs.Lookups.{module_at, importee_of}
 
 -- the numbers, counted from k, of the rows that pass a test
 abbrev pub numbers : {T : Type 0} → ℕ → (T → Bool) → List T → List ℕ

@@ -1,5 +1,5 @@
 -- One reference more: the references of each word, and how many there are.
-use Rattle.std.proofs.Common.{◌≡◌, ℕ, suc, ◌+◌, List, [], ◌∷◌, ◌++◌, length, sym, refl, ap, ◌∙◌, append-nil, arith}
+use Rattle.std.proofs.Common.{◌≡◌, ◌+◌, List, [], ◌∷◌, ◌++◌, length, refl, ap, ◌∙◌, append-nil, arith}
 use Rattle.std.proofs.lemmas.List.{length_push}
 use Rattle.line.specs.declared.rows.MemberRow.{MemberRow}
 use Rattle.line.specs.declared.rows.ReadsRow.{ReadsRow}

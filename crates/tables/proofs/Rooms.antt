@@ -1,6 +1,5 @@
 -- Whether a table takes one row more, by the count of its rows.
-use Rattle.std.proofs.Common.{◌≡◌, ℕ, ◌<◌, ◌≤◌, true, false, cond, ltb, List, length, Ok, Err, Result, sym, refl, ap, ◌∙◌, arith, le-ltb, lt-ltb}
-use Rattle.tables.specs.declared.faults.RowFault.{RowFault}
+use Rattle.std.proofs.Common.{◌≡◌, ℕ, ◌<◌, ◌≤◌, true, false, List, length, Ok, Err, arith, le-ltb, lt-ltb}
 use Rattle.tables.specs.declared.faults.RowFault.TheVariants.{Full}
 use Rattle.tables.specs.Room.{fits}
 

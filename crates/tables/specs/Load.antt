@@ -1,5 +1,5 @@
 -- Which rows a draft takes: first the limit of the row's table, then the rows of which there can be one.
-use Rattle.std.specs.Prelude.{ℕ, Bool, cond, ◌&&◌, List, length, is_ok, Some, None, Ok, Err, Option, Result, ◌==◌}
+use Rattle.std.specs.Prelude.{Bool, cond, ◌&&◌, is_ok, Some, None, Ok, Err, Option, Result, ◌==◌}
 use Rattle.line.specs.declared.rows.ConstantRow.{ConstantRow}
 use Rattle.line.specs.declared.rows.ExportRow.{ExportRow}
 use Rattle.line.specs.declared.rows.ImportRow.{ImportRow}

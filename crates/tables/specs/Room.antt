@@ -1,5 +1,5 @@
 -- A table with a limit: what it holds, and whether it takes one row more.
-use Rattle.std.specs.Prelude.{ℕ, Bool, true, false, cond, ◌||◌, List, [], ◌∷◌, length, Ok, Err, vec_items, Result, nat_lt}
+use Rattle.std.specs.Prelude.{ℕ, Bool, false, cond, ◌||◌, List, [], ◌∷◌, length, Ok, Err, vec_items, Result, nat_lt}
 use Rattle.tables.specs.declared.faults.RowFault.{RowFault}
 use Rattle.tables.specs.declared.faults.RowFault.TheVariants.{Full, Twice}
 use Rattle.tables.specs.declared.table.Table.{Table}

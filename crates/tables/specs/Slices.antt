@@ -1,5 +1,5 @@
 -- What the slices of a draft show: the tables of its graph, row by row.
-use Rattle.std.specs.Prelude.{◌≡◌, ℕ, List, map}
+use Rattle.std.specs.Prelude.{◌≡◌, ℕ, map}
 use Rattle.line.specs.declared.rows.StatementRow.{StatementRow}
 use Rattle.tables.specs.declared.limits.Limits.{Limits}
 use Rattle.tables.specs.declared.slices.Slices.{Slices}

@@ -1,5 +1,5 @@
-use Rattle.std.proofs.Common.{◌≡◌, ◌∷◌, sym, ap, ◌∙◌}
-use Rattle.parts.specs.Parts.{front, after, fields, seen}
+use Rattle.std.proofs.Common.{◌∷◌, sym, ap, ◌∙◌}
+use Rattle.parts.specs.Parts.{after, fields, seen}
 use Rattle.line.proofs.Counts.{parts_next}
 use Rattle.line.proofs.fields.next.Goals as goal
 

@@ -1,4 +1,4 @@
-use Rattle.std.proofs.Common.{◌≡◌, length, sym, ap, ◌∙◌}
+use Rattle.std.proofs.Common.{sym, ap, ◌∙◌}
 use Rattle.line.specs.Lines.{asked, counted, ask_kinds}
 use Rattle.parts.specs.Parts.{fields, seen}
 use Rattle.line.proofs.Splitting.{asked_by}

@@ -1,4 +1,4 @@
-use Rattle.std.proofs.Common.{◌≡◌, sym, ap, ◌∙◌}
+use Rattle.std.proofs.Common.{sym, ap, ◌∙◌}
 use Rattle.tables.proofs.Scans.{found, passed, none_left}
 use Rattle.tables.proofs.fills.has_same.Goals as goal
 

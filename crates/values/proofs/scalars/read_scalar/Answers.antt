@@ -1,4 +1,4 @@
-use Rattle.std.proofs.Common.{◌≡◌, ap, ◌∙◌, inl, inr, arith}
+use Rattle.std.proofs.Common.{ap, ◌∙◌, inl, inr, arith}
 use Rattle.std.specs.Option.{option_map}
 use Rattle.values.specs.declared.scalars.Scalar.TheVariants.{Number}
 use Rattle.values.proofs.FirstBytes.{no_bytes, dash_alone, dash_more, star_alone, star_more, number_alone, nothing}

@@ -1,4 +1,4 @@
-use Rattle.std.proofs.Common.{vec_items, ◌∙◌, arith}
+use Rattle.std.proofs.Common.{vec_items, arith}
 use Rattle.tables.proofs.Counting.{count_both, members_more}
 use Rattle.tables.proofs.references.References.push_member.Goals as goal
 

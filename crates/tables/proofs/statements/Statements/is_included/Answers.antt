@@ -1,4 +1,4 @@
-use Rattle.std.proofs.Common.{◌≡◌, vec_items, ap, ◌∙◌, arith}
+use Rattle.std.proofs.Common.{vec_items, ap, ◌∙◌, arith}
 use Rattle.tables.specs.Flags.{no_statement, flag_at}
 use Rattle.tables.specs.Room.{rows_of}
 use Rattle.tables.proofs.Flags.{row_flag, row_past}
