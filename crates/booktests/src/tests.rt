@@ -1,5 +1,6 @@
 use crate::samples::{constant, export, import, sample};
 use line::{LoadKind, LoadRow, StatementRow};
+use std::fmt::Debug;
 use std::test::Fail;
 use tables::{Draft, Limits, Taken};
 use values::ExportClass;
@@ -24,16 +25,22 @@ fn load_text(draft: &mut Draft, line: &[u8]) -> (u8, u8) {
     }
 }
 
-// Loads so many rows of a kind, and one more: the number of the first refusal, and how many rows there are then.
-fn fill(draft: &mut Draft, kind: LoadKind, limit: u16) -> (u8, usize) {
-    for i in 0..limit {
-        let refusal = load(draft, sample(kind, i));
-        if refusal != 0 {
-            return (refusal, draft.count(kind));
-        }
+// What two values have to be for a helper, which has no handle to assert with: the same.
+fn check_eq<T: PartialEq + Debug + Drop>(found: T, wanted: T) -> Result<(), Fail> {
+    if found == wanted {
+        Ok(())
+    } else {
+        Err(Fail::new(format_args!("{found:?} in place of {wanted:?}")))
     }
-    let refusal = load(draft, sample(kind, limit));
-    (refusal, draft.count(kind))
+}
+
+// So many rows of a kind are taken, and one more is refused.
+fn fill(draft: &mut Draft, kind: LoadKind, limit: u16) -> Result<(), Fail> {
+    for i in 0..limit {
+        check_eq(load(draft, sample(kind, i)), 0)?;
+    }
+    check_eq(load(draft, sample(kind, limit)), 4)?;
+    check_eq(draft.count(kind), usize::from(limit))
 }
 
 #[test]
@@ -53,7 +60,7 @@ fn full_limits(rt: HostRuntime) -> Result<(), Fail> {
         (LoadKind::Constant, 1024),
     ];
     for (kind, limit) in limits {
-        assert_eq!(rt; fill(&mut draft, kind, limit), (4, usize::from(limit)));
+        fill(&mut draft, kind, limit)?;
     }
     Ok(())
 }
@@ -75,7 +82,7 @@ fn small_limits(rt: HostRuntime) -> Result<(), Fail> {
         (LoadKind::Constant, 64),
     ];
     for (kind, limit) in limits {
-        assert_eq!(rt; fill(&mut draft, kind, limit), (4, usize::from(limit)));
+        fill(&mut draft, kind, limit)?;
     }
     // a table at its limit refuses before a duplicate is looked for
     assert_eq!(rt; load(&mut draft, import(0, 0)), 4);
