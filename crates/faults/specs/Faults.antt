@@ -1,25 +1,16 @@
--- What a refusal tells, its number, its layer, and the row and the field that it is about, and the text that is printed of it.
-use Rattle.std.specs.Prelude.{ℕ, List, ◌++◌, Some, None, codes, decimal, Option}
-use Rattle.parts.specs.declared.faults.LineFault.{LineFault}
-use Rattle.parts.specs.declared.faults.LineFault.TheVariants.{Form, Value}
+-- What a refusal tells that can be about a row of a draft, and the text that is printed of it.
+use Rattle.std.specs.Prelude.{◌≡◌, ℕ, List, ◌++◌, Some, None, codes, decimal, Option}
 use Rattle.line.specs.Shape.{load_word}
+use Rattle.parts.specs.Faults as parts
+use Rattle.parts.specs.declared.faults.Told as parts_told
+use Rattle.parts.specs.declared.faults.FaultLine as parts_fault
 use Rattle.faults.specs.declared.printed.FaultLine.{FaultLine}
-use Rattle.faults.specs.declared.told.Layer.{Layer}
-use Rattle.faults.specs.declared.told.Layer.TheVariants as layer
 use Rattle.faults.specs.declared.told.RowName.{RowName}
 use Rattle.faults.specs.declared.told.Told.{Told}
 
--- a refused line tells no row
-abbrev pub line_told : LineFault → Told
-line_told Form = record { number = 1; layer = layer.Line; row = None; field = None }
-line_told (Value n) = record { number = 2; layer = layer.Line; row = None; field = Some n }
-
--- the word of a layer
-abbrev pub layer_word : Layer → List ℕ
-layer_word layer.Line = codes "line"
-layer_word layer.Row = codes "row"
-layer_word layer.Link = codes "link"
-layer_word layer.Ask = codes "ask"
+-- what a refusal tells that is about no row
+abbrev pub about_no_row : parts_told.Told → Told
+about_no_row t = record { number = t.number; layer = t.layer; row = None; field = t.field }
 
 -- a row as its word, a colon and its number
 abbrev pub row_text : RowName → List ℕ
@@ -36,4 +27,9 @@ made_or make other (Some x) = make x
 
 -- the line that a fault prints: fault,LINE,LAYER,NUMBER,ROW,FIELD
 abbrev pub fault_text : FaultLine → List ℕ
-fault_text f = codes "fault," ++ (decimal f.line ++ (codes "," ++ (layer_word f.told.layer ++ (codes "," ++ (decimal f.told.number ++ (codes "," ++ (made_or row_text dash f.told.row ++ (codes "," ++ made_or decimal dash f.told.field))))))))
+fault_text f = codes "fault," ++ (decimal f.line ++ (codes "," ++ (parts.layer_word f.told.layer ++ (codes "," ++ (decimal f.told.number ++ (codes "," ++ (made_or row_text dash f.told.row ++ (codes "," ++ made_or decimal dash f.told.field))))))))
+
+-- a fault that is about no row, and the same fault where rows can be told: it tells the same, and prints the same
+pub record SaysTheSame (f : parts_fault.FaultLine) (g : FaultLine) : Type 0 where
+  pub told : g ≡ record { line = f.line; told = about_no_row f.told }
+  pub text : fault_text g ≡ parts.fault_text f

@@ -3,7 +3,7 @@ use Rattle.std.specs.Prelude.{Some, None}
 use Rattle.faults.specs.declared.links.LinkFault.{LinkFault}
 use Rattle.faults.specs.declared.links.LinkFault.TheVariants.{Bad, Memory}
 use Rattle.faults.specs.declared.told.Told.{Told}
-use Rattle.faults.specs.declared.told.Layer.TheVariants as layer
+use Rattle.parts.specs.declared.faults.Layer.TheVariants as layer
 
 -- a link that is refused for a bad field tells it and its row
 abbrev pub link_told : LinkFault → Told

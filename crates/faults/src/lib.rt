@@ -1,4 +1,4 @@
-// What a refusal tells, and how it is printed.
+// What a refusal tells that can be about a row of a draft, and how it is printed.
 
 #![tactic(auto)]
 
@@ -8,4 +8,4 @@ mod told;
 
 pub use links::LinkFault;
 pub use printed::FaultLine;
-pub use told::{BadRow, Layer, RowName, Told, line_told};
+pub use told::{BadRow, RowName, Told};

@@ -3,7 +3,8 @@
 ghost use Rattle.std.specs.Prelude.{◌≡◌};
 ghost use Rattle.faults.specs.Links.{link_told};
 
-use crate::told::{BadRow, Layer, Told};
+use crate::told::{BadRow, Told};
+use parts::Layer;
 
 #[derive(Clone, Copy)]
 pub enum LinkFault {

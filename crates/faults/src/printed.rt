@@ -1,7 +1,7 @@
 // The line that is printed of a refusal.
 
 ghost use Rattle.std.specs.Prelude.{Some};
-ghost use Rattle.faults.specs.Faults.{row_text, dash, made_or, fault_text};
+ghost use Rattle.faults.specs.Faults.{row_text, dash, made_or, fault_text, SaysTheSame};
 
 use crate::told::{RowName, Told};
 use std::fmt;
@@ -48,5 +48,17 @@ impl fmt::Display for FaultLine {
         let row = OrDash(self.told.row);
         let field = OrDash(self.told.field);
         write!(f, "fault,{line},{layer},{number},{row},{field}")
+    }
+}
+
+// A refusal that is about no row says the same as before.
+impl From<parts::FaultLine> for FaultLine {
+    ghost from_gives = { λ f r. SaysTheSame f r };
+
+    fn from(fault: parts::FaultLine) -> FaultLine {
+        FaultLine {
+            line: fault.line,
+            told: Told::from(fault.told),
+        }
     }
 }

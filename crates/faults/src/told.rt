@@ -1,19 +1,10 @@
-// What a refusal tells.
+// What a refusal tells that can be about a row of a draft.
 
 ghost use Rattle.std.specs.Prelude.{◌≡◌};
-ghost use Rattle.faults.specs.Faults.{line_told, layer_word};
+ghost use Rattle.faults.specs.Faults.{about_no_row};
 
 use line::LoadKind;
-use parts::LineFault;
-
-// Where a refusal comes from.
-#[derive(Clone, Copy)]
-pub enum Layer {
-    Line,
-    Row,
-    Link,
-    Ask,
-}
+use parts::Layer;
 
 // A row of a draft: its kind, which has its word, and its number among the rows of that kind.
 #[derive(Clone, Copy)]
@@ -38,35 +29,16 @@ pub struct Told {
     pub field: Option<u8>,
 }
 
-impl Layer {
-    pub fn word(self) -> &'static str
-        ensures { result.now ≡ layer_word self }
-    {
-        match self {
-            Layer::Line => "line",
-            Layer::Row => "row",
-            Layer::Link => "link",
-            Layer::Ask => "ask",
-        }
-    }
-}
+// The refusal of a line or of a row is about no row of a draft: what is refused is in no table.
+impl From<parts::Told> for Told {
+    ghost from_gives = { λ t r. r ≡ about_no_row t };
 
-// A refused line is no row yet, so it tells none.
-pub fn line_told(fault: LineFault) -> Told
-    ensures { result ≡ line_told fault }
-{
-    match fault {
-        LineFault::Form => Told {
-            number: 1,
-            layer: Layer::Line,
+    fn from(told: parts::Told) -> Told {
+        Told {
+            number: told.number,
+            layer: told.layer,
             row: None,
-            field: None,
-        },
-        LineFault::Value { field } => Told {
-            number: 2,
-            layer: Layer::Line,
-            row: None,
-            field: Some(field),
-        },
+            field: told.field,
+        }
     }
 }

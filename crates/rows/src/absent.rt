@@ -1,9 +1,7 @@
 // The rows that stand past the end of a table, and mean nothing.
 
-use line::{ConstantRow, ExportRow, ImportRow, ModeRow, ModuleRow, RecordRow, SymbolRow, UsesRow};
-use values::{
-    ExportClass, ExportsKind, Imported, InlineConstMode, ModuleKind, RecordKind, WrapKind,
-};
+use line::{ExportRow, ModuleRow, RecordRow, SymbolRow};
+use values::{ExportClass, ExportsKind, ModuleKind, RecordKind, WrapKind};
 
 pub(crate) const NO_MODULE: ModuleRow = ModuleRow {
     kind: ModuleKind::External,
@@ -28,19 +26,6 @@ pub(crate) const NO_RECORD: RecordRow = RecordRow {
     importee: None,
     star: false,
     reexport_only: false,
-};
-
-pub(crate) const NO_USES: UsesRow = UsesRow {
-    statement: 0,
-    record: 0,
-};
-
-pub(crate) const NO_IMPORT: ImportRow = ImportRow {
-    module: 0,
-    local: 0,
-    imported_as: 0,
-    record: 0,
-    name: Imported::Namespace,
 };
 
 pub(crate) const NO_EXPORT: ExportRow = ExportRow {

@@ -1,4 +1,4 @@
-// The rows of a linked book, by number and in groups.
+// The rows of a draft by number.
 
 #![tactic(auto)]
 

@@ -1,16 +1,13 @@
 // Rows by number. Past the end of a table stands a row that means nothing.
 
 ghost use Rattle.std.specs.Prelude.{◌≡◌, ℕ, ◌<◌, length, slice_index_or};
-ghost use Rattle.tables.specs.Lookups.{module_at, symbol_at, record_at, uses_at, import_at, export_at};
-ghost use Rattle.rows.specs.Entries.{normal, imported_module};
+ghost use Rattle.tables.specs.Lookups.{module_at, symbol_at, record_at, export_at};
+ghost use Rattle.rows.specs.Modules.{normal, imported_module};
 ghost use Rattle.rows.specs.View.{graph};
 
 use crate::absent::*;
 use crate::rows::Rows;
-use line::{
-    ExportRow, ImportRecordIdx, ImportRow, ModuleIdx, ModuleRow, RecordRow, SymbolRef, SymbolRow,
-    UsesRow,
-};
+use line::{ExportRow, ImportRecordIdx, ModuleIdx, ModuleRow, RecordRow, SymbolRef, SymbolRow};
 use values::ModuleKind;
 
 fn row_at<T: Copy>(rows: &[T], i: usize, absent: T) -> T
@@ -44,7 +41,7 @@ impl Rows {
         row_at(self.draft.slices().exports, i, NO_EXPORT)
     }
 
-    // How many names there are: one more than the highest name in a row.
+    // How many names there are, as the rows were made with.
     pub fn names(&self) -> usize
         ensures { result ≡ self.now.names }
     {

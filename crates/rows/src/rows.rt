@@ -1,10 +1,10 @@
-// The rows of a book that can be linked: a draft whose rows are grouped and name only rows that are there.
+// The rows of a draft, to be read by number, and how many names they have. Nothing makes them yet, and nothing is known of the count.
 
 use tables::Draft;
 
 #[derive(Drop)]
 pub struct Rows {
     pub(crate) draft: Draft,
-    // one more than the highest name in a row
+    // meant to be one more than the highest name in a row
     pub(crate) names: usize,
 }
