@@ -1,10 +1,11 @@
 // A book as it is read, byte by byte.
 
 use line::LoadKind;
-use parts::{FaultLine, LineBuffer};
+use parts::{FaultLine, LineBuffer, Told};
 use std::alloc::{AllocError, Global};
 use std::io;
-use tables::{Draft, Limits, Taken};
+use tables::{Draft, Limits};
+use values::Choice;
 
 #[derive(Drop)]
 pub(crate) struct Book {
@@ -42,13 +43,13 @@ impl Book {
     fn end_line(&mut self, rt: &HostRuntime) -> io::Result<()> {
         self.lines = self.lines.saturating_add(1);
         match self.draft.load_line(self.line.bytes()) {
-            Ok(Taken::Loaded) => {}
-            Ok(Taken::Other(_)) => self.others = self.others.saturating_add(1),
+            Ok(None) => {}
+            Ok(Some(_)) => self.others = self.others.saturating_add(1),
             Err(fault) => {
                 self.faults = self.faults.saturating_add(1);
                 rt.println(FaultLine {
                     line: self.lines,
-                    told: fault.told(),
+                    told: Told::from(fault),
                 })?;
             }
         }
@@ -65,27 +66,13 @@ impl Book {
     }
 
     fn say(&self, rt: &HostRuntime) -> io::Result<()> {
-        let kinds = [
-            LoadKind::Mode,
-            LoadKind::Module,
-            LoadKind::Symbol,
-            LoadKind::Record,
-            LoadKind::Statement,
-            LoadKind::Uses,
-            LoadKind::Reads,
-            LoadKind::Member,
-            LoadKind::Import,
-            LoadKind::Export,
-            LoadKind::Constant,
-        ];
         let lines = self.lines;
         let others = self.others;
         let faults = self.faults;
         print!(rt; "Lines read: {lines}.\nRows taken:")?;
-        for kind in kinds {
-            let word = kind.word();
-            let count = self.draft.count(kind);
-            print!(rt; " {word} {count};")?;
+        for kind in LoadKind::all() {
+            let count = self.draft.count(*kind);
+            print!(rt; " {kind} {count};")?;
         }
         println!(rt; " marks, host rows and questions left aside: {others}.\nFaults: {faults}.")
     }

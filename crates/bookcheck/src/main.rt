@@ -18,6 +18,7 @@ fn check(rt: &HostRuntime, input: &mut impl Read) -> anyhow::Result<()> {
     let mut book = Book::new(heap)?;
     let mut piece = vec![in heap; 0u8; PIECE]?;
     for _ in 0..u64::MAX {
+        // Not a context, after which a long message would be cut at another place.
         let n = match input.read(&mut piece) {
             Ok(n) => n,
             Err(e) => return Err(anyhow!(format!(in heap; "cannot read the book: {e}")?)),
@@ -33,6 +34,7 @@ fn check(rt: &HostRuntime, input: &mut impl Read) -> anyhow::Result<()> {
 
 fn check_file(rt: &HostRuntime, path: &str) -> anyhow::Result<()> {
     let heap = rt.alloc();
+    // Not a context, as above.
     match fs::open(rt, path) {
         Ok(mut file) => check(rt, &mut file),
         Err(e) => Err(anyhow!(format!(in heap; "cannot open {path}: {e}")?)),

@@ -1,28 +1,42 @@
 use crate::samples::{constant, export, import, sample};
-use line::{LoadKind, LoadRow, StatementRow};
+use line::{LoadKind, LoadRow, MarkRow, Row, StatementRow};
+use parts::{Layer, Told};
 use std::fmt::Debug;
 use std::test::Fail;
-use tables::{Draft, Limits, Taken};
+use tables::{Draft, Limits};
 use values::ExportClass;
 
-// The number of a row's refusal, or 0 where it is taken.
-fn load(draft: &mut Draft, row: LoadRow) -> u8 {
-    match draft.load(row) {
-        Ok(()) => 0,
-        Err(fault) => fault.told().number,
-    }
+// What the refusals tell.
+const FORM: Told = Told {
+    number: 1,
+    layer: Layer::Line,
+    field: None,
+};
+
+const BAD_FIRST_FIELD: Told = Told {
+    number: 2,
+    layer: Layer::Line,
+    field: Some(1),
+};
+
+const FULL: Told = Told {
+    number: 4,
+    layer: Layer::Row,
+    field: None,
+};
+
+const TWICE: Told = Told {
+    number: 5,
+    layer: Layer::Row,
+    field: None,
+};
+
+fn load(draft: &mut Draft, row: LoadRow) -> Result<(), Told> {
+    draft.load(row).map_err(Told::from)
 }
 
-// The number and the field of a line's refusal; 0 where its row is taken, and 100 where it is no row of a draft.
-fn load_text(draft: &mut Draft, line: &[u8]) -> (u8, u8) {
-    match draft.load_line(line) {
-        Ok(Taken::Loaded) => (0, 0),
-        Ok(Taken::Other(_)) => (100, 0),
-        Err(fault) => {
-            let told = fault.told();
-            (told.number, told.field.unwrap_or(0))
-        }
-    }
+fn load_text(draft: &mut Draft, line: &[u8]) -> Result<Option<Row>, Told> {
+    draft.load_line(line).map_err(Told::from)
 }
 
 // What two values have to be for a helper, which has no handle to assert with: the same.
@@ -37,10 +51,18 @@ fn check_eq<T: PartialEq + Debug + Drop>(found: T, wanted: T) -> Result<(), Fail
 // So many rows of a kind are taken, and one more is refused.
 fn fill(draft: &mut Draft, kind: LoadKind, limit: u16) -> Result<(), Fail> {
     for i in 0..limit {
-        check_eq(load(draft, sample(kind, i)), 0)?;
+        check_eq(load(draft, sample(kind, i)), Ok(()))?;
     }
-    check_eq(load(draft, sample(kind, limit)), 4)?;
+    check_eq(load(draft, sample(kind, limit)), Err(FULL))?;
     check_eq(draft.count(kind), usize::from(limit))
+}
+
+// Each table is filled to its limit and past it.
+fn fill_all(draft: &mut Draft, limits: [(LoadKind, u16); 11]) -> Result<(), Fail> {
+    for (kind, limit) in limits {
+        fill(draft, kind, limit)?;
+    }
+    Ok(())
 }
 
 #[test]
@@ -59,10 +81,7 @@ fn full_limits(rt: HostRuntime) -> Result<(), Fail> {
         (LoadKind::Export, 2048),
         (LoadKind::Constant, 1024),
     ];
-    for (kind, limit) in limits {
-        fill(&mut draft, kind, limit)?;
-    }
-    Ok(())
+    fill_all(&mut draft, limits)
 }
 
 #[test]
@@ -81,26 +100,27 @@ fn small_limits(rt: HostRuntime) -> Result<(), Fail> {
         (LoadKind::Export, 64),
         (LoadKind::Constant, 64),
     ];
-    for (kind, limit) in limits {
-        fill(&mut draft, kind, limit)?;
-    }
+    fill_all(&mut draft, limits)?;
     // a table at its limit refuses before a duplicate is looked for
-    assert_eq!(rt; load(&mut draft, import(0, 0)), 4);
+    assert_eq!(rt; load(&mut draft, import(0, 0)), Err(FULL));
     Ok(())
 }
 
 #[test]
 fn duplicates(rt: HostRuntime) -> Result<(), Fail> {
     let mut draft = Draft::new(rt.alloc(), Limits::small())?;
-    assert_eq!(rt; load(&mut draft, import(1, 2)), 0);
-    assert_eq!(rt; load(&mut draft, import(2, 1)), 0);
-    assert_eq!(rt; load(&mut draft, import(1, 2)), 5);
-    assert_eq!(rt; load(&mut draft, export(1, 2, ExportClass::Local)), 0);
-    assert_eq!(rt; load(&mut draft, export(2, 2, ExportClass::Local)), 0);
-    assert_eq!(rt; load(&mut draft, export(1, 3, ExportClass::Local)), 0);
-    assert_eq!(rt; load(&mut draft, export(1, 2, ExportClass::All)), 5);
-    assert_eq!(rt; load(&mut draft, constant(7, true)), 0);
-    assert_eq!(rt; load(&mut draft, constant(7, false)), 5);
+    assert_eq!(rt; load(&mut draft, import(1, 2)), Ok(()));
+    assert_eq!(rt; load(&mut draft, import(2, 1)), Ok(()));
+    assert_eq!(rt; load(&mut draft, import(1, 2)), Err(TWICE));
+    assert_eq!(rt; load(&mut draft, export(1, 2, ExportClass::Local)), Ok(()));
+    assert_eq!(rt; load(&mut draft, export(2, 2, ExportClass::Local)), Ok(()));
+    assert_eq!(rt; load(&mut draft, export(1, 3, ExportClass::Local)), Ok(()));
+    assert_eq!(rt;
+        load(&mut draft, export(1, 2, ExportClass::All)),
+        Err(TWICE)
+    );
+    assert_eq!(rt; load(&mut draft, constant(7, true)), Ok(()));
+    assert_eq!(rt; load(&mut draft, constant(7, false)), Err(TWICE));
     assert_eq!(rt; draft.count(LoadKind::Import), 2);
     assert_eq!(rt; draft.count(LoadKind::Export), 3);
     assert_eq!(rt; draft.count(LoadKind::Constant), 1);
@@ -110,13 +130,18 @@ fn duplicates(rt: HostRuntime) -> Result<(), Fail> {
 #[test]
 fn lines_of_a_draft(rt: HostRuntime) -> Result<(), Fail> {
     let mut draft = Draft::new(rt.alloc(), Limits::small())?;
-    assert_eq!(rt; load_text(&mut draft, b"mode,1,smart"), (0, 0));
-    assert_eq!(rt; load_text(&mut draft, b"mode,1,smart"), (4, 0));
-    assert_eq!(rt; load_text(&mut draft, b"mode,2,some"), (2, 1));
-    assert_eq!(rt; load_text(&mut draft, b"mode,1"), (1, 0));
-    assert_eq!(rt; load_text(&mut draft, b"constant,3,0,1"), (0, 0));
-    assert_eq!(rt; load_text(&mut draft, b"constant,3,1,0"), (5, 0));
-    assert_eq!(rt; load_text(&mut draft, b"carrier,0,1,1"), (100, 0));
+    assert_eq!(rt; load_text(&mut draft, b"mode,1,smart"), Ok(None));
+    assert_eq!(rt; load_text(&mut draft, b"mode,1,smart"), Err(FULL));
+    assert_eq!(rt; load_text(&mut draft, b"mode,2,some"), Err(BAD_FIRST_FIELD));
+    assert_eq!(rt; load_text(&mut draft, b"mode,1"), Err(FORM));
+    assert_eq!(rt; load_text(&mut draft, b"constant,3,0,1"), Ok(None));
+    assert_eq!(rt; load_text(&mut draft, b"constant,3,1,0"), Err(TWICE));
+    let carrier = Row::Mark(MarkRow::Carrier {
+        record: 0,
+        wrapper: 1,
+        eager: true,
+    });
+    assert_eq!(rt; load_text(&mut draft, b"carrier,0,1,1"), Ok(Some(carrier)));
     assert_eq!(rt; draft.count(LoadKind::Mode), 1);
     assert_eq!(rt; draft.count(LoadKind::Constant), 1);
     Ok(())
@@ -135,7 +160,7 @@ fn included_flags(rt: HostRuntime) -> Result<(), Fail> {
                     included: i % 3 == 0,
                 }),
             ),
-            0
+            Ok(())
         );
     }
     for i in 0..100u16 {

@@ -1,5 +1,5 @@
 -- What a refusal tells that can be about a row of a draft, and the text that is printed of it.
-use Rattle.std.specs.Prelude.{◌≡◌, ℕ, List, ◌++◌, Some, None, codes, decimal, Option}
+use Rattle.std.specs.Prelude.{◌≡◌, ℕ, List, ◌++◌, None, codes, decimal}
 use Rattle.line.specs.Shape.{load_word}
 use Rattle.parts.specs.Faults as parts
 use Rattle.parts.specs.declared.faults.Told as parts_told
@@ -16,18 +16,9 @@ about_no_row t = record { number = t.number; layer = t.layer; row = None; field 
 abbrev pub row_text : RowName → List ℕ
 row_text r = load_word r.table ++ (codes ":" ++ decimal r.number)
 
--- what stands for a part of which nothing is told
-abbrev pub dash : List ℕ
-dash = codes "-"
-
--- what is made of a value, or something else where there is none
-abbrev pub made_or : {T U : Type 0} → (T → U) → U → Option T → U
-made_or make other None = other
-made_or make other (Some x) = make x
-
 -- the line that a fault prints: fault,LINE,LAYER,NUMBER,ROW,FIELD
 abbrev pub fault_text : FaultLine → List ℕ
-fault_text f = codes "fault," ++ (decimal f.line ++ (codes "," ++ (parts.layer_word f.told.layer ++ (codes "," ++ (decimal f.told.number ++ (codes "," ++ (made_or row_text dash f.told.row ++ (codes "," ++ made_or decimal dash f.told.field))))))))
+fault_text f = codes "fault," ++ (decimal f.line ++ (codes "," ++ (parts.layer_word f.told.layer ++ (codes "," ++ (decimal f.told.number ++ (codes "," ++ (parts.made_or row_text parts.dash f.told.row ++ (codes "," ++ parts.or_dash f.told.field))))))))
 
 -- a fault that is about no row, and the same fault where rows can be told: it tells the same, and prints the same
 pub record SaysTheSame (f : parts_fault.FaultLine) (g : FaultLine) : Type 0 where

@@ -6,7 +6,7 @@ ghost use Rattle.faults.specs.Links.{link_told};
 use crate::told::{BadRow, Told};
 use parts::Layer;
 
-#[derive(Clone, Copy)]
+#[derive(Debug, Clone, Copy, PartialEq, Eq)]
 pub enum LinkFault {
     // the first row with a bad field
     Bad(BadRow),
@@ -14,11 +14,11 @@ pub enum LinkFault {
     Memory,
 }
 
-impl LinkFault {
-    pub fn told(self) -> Told
-        ensures { result ≡ link_told self }
-    {
-        match self {
+impl From<LinkFault> for Told {
+    ghost from_gives = { λ e t. t ≡ link_told e };
+
+    fn from(fault: LinkFault) -> Told {
+        match fault {
             LinkFault::Bad(BadRow { row, field }) => Told {
                 number: 6,
                 layer: Layer::Link,

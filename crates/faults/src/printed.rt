@@ -1,38 +1,25 @@
 // The line that is printed of a refusal.
 
 ghost use Rattle.std.specs.Prelude.{Some};
-ghost use Rattle.faults.specs.Faults.{row_text, dash, made_or, fault_text, SaysTheSame};
+ghost use Rattle.faults.specs.Faults.{row_text, fault_text, SaysTheSame};
 
 use crate::told::{RowName, Told};
+use parts::OrDash;
 use std::fmt;
-
-// A part of the line: a value, or `-` where there is none.
-#[derive(Clone, Copy)]
-struct OrDash<T>(Option<T>);
-
-impl<T: fmt::Display> fmt::Display for OrDash<T> {
-    ghost output = { λ x. made_or T.Display.output (Some dash) x.0 };
-
-    fn fmt<W: fmt::Write>(&self, f: &mut fmt::Formatter<W>) -> fmt::Result {
-        match &self.0 {
-            Some(value) => value.fmt(f),
-            None => f.write_str("-"),
-        }
-    }
-}
 
 impl fmt::Display for RowName {
     ghost output = { λ r. Some (row_text r) };
 
     fn fmt<W: fmt::Write>(&self, f: &mut fmt::Formatter<W>) -> fmt::Result {
-        let word = self.table.word();
+        let table = self.table;
         let number = self.number;
-        write!(f, "{word}:{number}")
+        write!(f, "{table}:{number}")
     }
 }
 
 // What is printed of a refusal: the number of the line, from 1, and what the refusal tells.
-#[derive(Clone, Copy)]
+// It stands beside the one of `parts` for the reason given at `Told`.
+#[derive(Debug, Clone, Copy, PartialEq, Eq)]
 pub struct FaultLine {
     pub line: u64,
     pub told: Told,
@@ -43,7 +30,7 @@ impl fmt::Display for FaultLine {
 
     fn fmt<W: fmt::Write>(&self, f: &mut fmt::Formatter<W>) -> fmt::Result {
         let line = self.line;
-        let layer = self.told.layer.word();
+        let layer = self.told.layer;
         let number = self.told.number;
         let row = OrDash(self.told.row);
         let field = OrDash(self.told.field);

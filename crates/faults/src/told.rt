@@ -7,21 +7,22 @@ use line::LoadKind;
 use parts::Layer;
 
 // A row of a draft: its kind, which has its word, and its number among the rows of that kind.
-#[derive(Clone, Copy)]
+#[derive(Debug, Clone, Copy, PartialEq, Eq)]
 pub struct RowName {
     pub table: LoadKind,
     pub number: usize,
 }
 
 // A row with a bad field, counted from 1.
-#[derive(Clone, Copy)]
+#[derive(Debug, Clone, Copy, PartialEq, Eq)]
 pub struct BadRow {
     pub row: RowName,
     pub field: u8,
 }
 
-// What a refusal tells: its number, its layer, and the row and the field that it is about, if any.
-#[derive(Clone, Copy)]
+// What a refusal tells: its number, which is what is printed, its layer, and the row and the field that it is about, if any.
+// One type with the row as a parameter would be no plainer: nothing would say which row it is where none is told.
+#[derive(Debug, Clone, Copy, PartialEq, Eq)]
 pub struct Told {
     pub number: u8,
     pub layer: Layer,

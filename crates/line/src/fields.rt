@@ -1,95 +1,70 @@
-// The fields that are left of a line, of which there have to be a certain number.
+// The fields of a line, which are taken one after another.
 
-ghost use Rattle.std.specs.Prelude.{◌≡◌, List, [], ◌∷◌, length, MatchResult, ◌≢◌};
+ghost use Rattle.std.specs.Prelude.{◌≡◌, ℕ, List, [], ◌∷◌, length, MatchResult, ◌≢◌, slice_index_or};
 ghost use Rattle.parts.specs.declared.faults.LineFault.{LineFault};
-ghost use Rattle.parts.specs.Parts.{parts, fields, seen};
+ghost use Rattle.parts.specs.Parts.{fields, seen};
 
 use parts::{LineFault, field};
+use std::marker::Model;
 
-// The next field, and what is left after it; nothing left to read is one field too few.
-fn next(left: Option<&[u8]>) -> Result<(&[u8], Option<&[u8]>), LineFault>
-    ensures { MatchResult result (λ p. fields (seen left.entry) ≡ p.0.now ∷ fields (seen p.1)) (λ e. (e ≡ LineFault.Form) × (fields (seen left.entry) ≡ [])) }
-{
-    let Some(bytes) = left else {
-        return Err(LineFault::Form);
-    };
-    Ok(field(bytes))
+// The fields that are left of a line.
+// The library's `split` would be no plainer: a question is told by its first field and by how many there are, before any is taken.
+#[derive(Drop)]
+pub(crate) struct Fields<'a> {
+    // the text of the fields with the commas between them, unless none is left
+    left: Option<&'a [u8]>,
 }
 
-// The one field that is left.
-pub(crate) fn one(left: Option<&[u8]>) -> Result<&[u8], LineFault>
-    ensures { MatchResult result (λ p. fields (seen left.entry) ≡ p.now ∷ []) (λ e. (e ≡ LineFault.Form) × (length (fields (seen left.entry)) ≢ 1)) }
-{
-    let (a, left) = next(left)?;
-    if left.is_some() {
-        return Err(LineFault::Form);
+// Clauses see the texts of the fields.
+impl<'a> Model for Fields<'a> {
+    ghost Value = { List (List ℕ) };
+
+    ghost view = { λ f. fields (seen f.left) };
+}
+
+impl<'a> Fields<'a> {
+    pub(crate) fn new(left: Option<&'a [u8]>) -> Fields<'a>
+        ensures { result ≡ fields (seen left.entry) }
+    {
+        Fields { left }
     }
-    Ok(a)
-}
 
-// The two fields that are left; and so on for more.
-pub(crate) fn two(left: Option<&[u8]>) -> Result<(&[u8], &[u8]), LineFault>
-    ensures { MatchResult result (λ p. fields (seen left.entry) ≡ p.0.now ∷ p.1.now ∷ []) (λ e. (e ≡ LineFault.Form) × (length (fields (seen left.entry)) ≢ 2)) }
-{
-    let (a, left) = next(left)?;
-    let b = one(left)?;
-    Ok((a, b))
-}
+    // The next field; a line that has none left has one too few.
+    #[tactic(auto, using(crate::proofs::Counts::parts_next))]
+    pub(crate) fn take(&mut self) -> Result<&'a [u8], LineFault>
+        ensures { MatchResult result (λ p. self.old ≡ p.now ∷ self.new) (λ e. (e ≡ LineFault.Form) × (self.old ≡ [])) }
+    {
+        let bytes = self.left.ok_or(LineFault::Form)?;
+        let (first, others) = field(bytes);
+        self.left = others;
+        Ok(first)
+    }
 
-pub(crate) fn three(left: Option<&[u8]>) -> Result<(&[u8], &[u8], &[u8]), LineFault>
-    ensures { MatchResult result (λ p. fields (seen left.entry) ≡ p.0.now ∷ p.1.now ∷ p.2.now ∷ []) (λ e. (e ≡ LineFault.Form) × (length (fields (seen left.entry)) ≢ 3)) }
-{
-    let (a, left) = next(left)?;
-    let (b, c) = two(left)?;
-    Ok((a, b, c))
-}
-
-pub(crate) fn four(left: Option<&[u8]>) -> Result<(&[u8], &[u8], &[u8], &[u8]), LineFault>
-    ensures { MatchResult result (λ p. fields (seen left.entry) ≡ p.0.now ∷ p.1.now ∷ p.2.now ∷ p.3.now ∷ []) (λ e. (e ≡ LineFault.Form) × (length (fields (seen left.entry)) ≢ 4)) }
-{
-    let (a, left) = next(left)?;
-    let (b, c, d) = three(left)?;
-    Ok((a, b, c, d))
-}
-
-pub(crate) fn five(left: Option<&[u8]>) -> Result<(&[u8], &[u8], &[u8], &[u8], &[u8]), LineFault>
-    ensures { MatchResult result (λ p. fields (seen left.entry) ≡ p.0.now ∷ p.1.now ∷ p.2.now ∷ p.3.now ∷ p.4.now ∷ []) (λ e. (e ≡ LineFault.Form) × (length (fields (seen left.entry)) ≢ 5)) }
-{
-    let (a, left) = next(left)?;
-    let (b, c, d, e) = four(left)?;
-    Ok((a, b, c, d, e))
-}
-
-pub(crate) fn six(
-    left: Option<&[u8]>,
-) -> Result<(&[u8], &[u8], &[u8], &[u8], &[u8], &[u8]), LineFault>
-    ensures { MatchResult result (λ p. fields (seen left.entry) ≡ p.0.now ∷ p.1.now ∷ p.2.now ∷ p.3.now ∷ p.4.now ∷ p.5.now ∷ []) (λ e. (e ≡ LineFault.Form) × (length (fields (seen left.entry)) ≢ 6)) }
-{
-    let (a, left) = next(left)?;
-    let (b, c, d, e, f) = five(left)?;
-    Ok((a, b, c, d, e, f))
-}
-
-pub(crate) fn eight(
-    left: Option<&[u8]>,
-) -> Result<(&[u8], &[u8], &[u8], &[u8], &[u8], &[u8], &[u8], &[u8]), LineFault>
-    ensures { MatchResult result (λ p. fields (seen left.entry) ≡ p.0.now ∷ p.1.now ∷ p.2.now ∷ p.3.now ∷ p.4.now ∷ p.5.now ∷ p.6.now ∷ p.7.now ∷ []) (λ e. (e ≡ LineFault.Form) × (length (fields (seen left.entry)) ≢ 8)) }
-{
-    let (a, left) = next(left)?;
-    let (b, left) = next(left)?;
-    let (c, d, e, f, g, h) = six(left)?;
-    Ok((a, b, c, d, e, f, g, h))
-}
-
-// How many fields a part of a line has: one more than it has commas.
-pub(crate) fn count(bytes: &[u8]) -> usize
-    ensures { result ≡ length (parts bytes.now) }
-{
-    let mut n = 1;
-    for b in bytes {
-        if *b == b',' {
-            n += 1;
+    // The last field; a line that has more left has too many.
+    #[tactic(auto, using(crate::proofs::Counts::some_left))]
+    pub(crate) fn last(&mut self) -> Result<&'a [u8], LineFault>
+        ensures { MatchResult result (λ p. self.old ≡ p.now ∷ []) (λ e. (e ≡ LineFault.Form) × (length self.old ≢ 1)) }
+    {
+        let last = self.take()?;
+        if self.left.is_some() {
+            return Err(LineFault::Form);
         }
+        Ok(last)
     }
-    n
+
+    // The first of the fields that are left, which is taken to be empty where none is.
+    #[tactic(auto, using(crate::proofs::Counts::parts_first))]
+    pub(crate) fn first(&self) -> &'a [u8]
+        ensures { result.now ≡ slice_index_or self.now 0 [] }
+    {
+        self.left.map_or(&[], |bytes| field(bytes).0)
+    }
+
+    // How many fields are left: one more than there are commas.
+    #[tactic(auto, using(crate::proofs::Counts::parts_count))]
+    pub(crate) fn count(&self) -> usize
+        ensures { result ≡ length self.now }
+    {
+        self.left.map_or(0, |bytes| 1 + bytes.iter().filter(|b| **b == b',').count())
+    }
 }

@@ -1,10 +1,12 @@
 // The kinds of rows, and their words.
 
+ghost use Rattle.std.proofs.Common.{rules};
+ghost use Rattle.line.specs.Lines.{load_kinds, mark_kinds, host_kinds, ask_kinds};
 ghost use Rattle.line.specs.Shape.{load_word, mark_word, host_word, question_word};
 
-use values::Spelled;
+use values::{Choice, Spelled};
 
-#[derive(Clone, Copy)]
+#[derive(Debug, Clone, Copy, PartialEq, Eq)]
 pub enum LoadKind {
     Mode,
     Module,
@@ -19,7 +21,7 @@ pub enum LoadKind {
     Constant,
 }
 
-#[derive(Clone, Copy)]
+#[derive(Debug, Clone, Copy, PartialEq, Eq)]
 pub enum MarkKind {
     Wrapped,
     Transparent,
@@ -31,21 +33,21 @@ pub enum MarkKind {
     Bind,
 }
 
-#[derive(Clone, Copy)]
+#[derive(Debug, Clone, Copy, PartialEq, Eq)]
 pub enum HostKind {
     Used,
     Reachable,
     Owns,
 }
 
-#[derive(Clone, Copy)]
+#[derive(Debug, Clone, Copy, PartialEq, Eq)]
 pub enum AskKind {
     Record,
     Circle,
     Caller,
 }
 
-#[derive(Clone, Copy)]
+#[derive(Debug, Clone, Copy, PartialEq, Eq)]
 pub enum Kind {
     Load(LoadKind),
     Mark(MarkKind),
@@ -73,6 +75,28 @@ impl Spelled for LoadKind {
     }
 }
 
+impl Choice for LoadKind {
+    ghost all = { load_kinds };
+
+    ghost read_back = { Prim.search rules };
+
+    fn all() -> &'static [LoadKind] {
+        &[
+            LoadKind::Mode,
+            LoadKind::Module,
+            LoadKind::Symbol,
+            LoadKind::Record,
+            LoadKind::Statement,
+            LoadKind::Uses,
+            LoadKind::Reads,
+            LoadKind::Member,
+            LoadKind::Import,
+            LoadKind::Export,
+            LoadKind::Constant,
+        ]
+    }
+}
+
 impl Spelled for MarkKind {
     ghost spelling = { mark_word };
 
@@ -90,6 +114,25 @@ impl Spelled for MarkKind {
     }
 }
 
+impl Choice for MarkKind {
+    ghost all = { mark_kinds };
+
+    ghost read_back = { Prim.search rules };
+
+    fn all() -> &'static [MarkKind] {
+        &[
+            MarkKind::Wrapped,
+            MarkKind::Transparent,
+            MarkKind::Route,
+            MarkKind::LocalRecord,
+            MarkKind::Nested,
+            MarkKind::Facade,
+            MarkKind::Carrier,
+            MarkKind::Bind,
+        ]
+    }
+}
+
 impl Spelled for HostKind {
     ghost spelling = { host_word };
 
@@ -99,6 +142,16 @@ impl Spelled for HostKind {
             HostKind::Reachable => "reachable",
             HostKind::Owns => "owns",
         }
+    }
+}
+
+impl Choice for HostKind {
+    ghost all = { host_kinds };
+
+    ghost read_back = { Prim.search rules };
+
+    fn all() -> &'static [HostKind] {
+        &[HostKind::Used, HostKind::Reachable, HostKind::Owns]
     }
 }
 
@@ -112,5 +165,15 @@ impl Spelled for AskKind {
             AskKind::Circle => "circle",
             AskKind::Caller => "caller",
         }
+    }
+}
+
+impl Choice for AskKind {
+    ghost all = { ask_kinds };
+
+    ghost read_back = { Prim.search rules };
+
+    fn all() -> &'static [AskKind] {
+        &[AskKind::Record, AskKind::Circle, AskKind::Caller]
     }
 }

@@ -11,9 +11,13 @@ mod reading;
 mod rows;
 mod splits;
 mod words;
+mod written;
 
 pub use kinds::{AskKind, HostKind, Kind, LoadKind, MarkKind};
-pub use lines::{AskLine, HostLine, Line, LoadLine, MarkLine};
+pub use lines::{
+    AskLine, ConstantLine, ExportLine, HostLine, ImportLine, Line, LoadLine, MarkLine, MemberLine,
+    ModeLine, ModuleLine, ReadsLine, RecordLine, StatementLine, SymbolLine, UsesLine,
+};
 pub use reading::read;
 pub use rows::{
     AskRow, ConstantRow, ExportRow, HostRow, ImportRecordIdx, ImportRow, LoadRow, MarkRow,

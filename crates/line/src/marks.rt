@@ -1,74 +1,59 @@
 // The values of the fields of mark rows, host rows and questions, as `loads` has them for the rows of a draft.
 
-ghost use Rattle.std.specs.Prelude.{◌≡◌, true, false, List, [], ◌∷◌, MatchResult};
+ghost use Rattle.std.specs.Prelude.{◌≡◌, true, false, MatchResult};
 ghost use Rattle.std.specs.Str.{bytes_eq};
 ghost use Rattle.parts.specs.declared.faults.LineFault.{LineFault};
-ghost use Rattle.line.specs.declared.kinds.Kind.TheVariants as every;
-ghost use Rattle.line.specs.declared.kinds.MarkKind.TheVariants as marks;
-ghost use Rattle.line.specs.declared.kinds.AskKind.TheVariants as asks;
-ghost use Rattle.line.specs.Lines.{read_as, target_as};
+ghost use Rattle.line.specs.Lines.{target_as};
 ghost use Rattle.line.specs.Shown.{mark_shown, host_shown, ask_shown};
 
 use crate::lines::{AskLine, HostLine, MarkLine};
 use crate::rows::{AskRow, HostRow, MarkRow, Row, Target};
+use crate::written::Written;
 use parts::LineFault;
-use values::{TargetKind, flag, is, number, target_kind};
+use values::{TargetKind, value};
 
-fn wrapped_row(module: &[u8], symbol: &[u8]) -> Result<Row, LineFault>
-    ensures { result ≡ read_as (every.Mark marks.Wrapped) («module».now ∷ symbol.now ∷ []) }
-{
-    let module = number(module, 1)?;
-    let symbol = number(symbol, 2)?;
-    Ok(Row::Mark(MarkRow::Wrapped { module, symbol }))
-}
+impl Written for MarkLine<'_> {
+    ghost shown = { mark_shown };
 
-fn carrier_row(record: &[u8], wrapper: &[u8], eager: &[u8]) -> Result<Row, LineFault>
-    ensures { result ≡ read_as (every.Mark marks.Carrier) («record».now ∷ wrapper.now ∷ eager.now ∷ []) }
-{
-    let record = number(record, 1)?;
-    let wrapper = number(wrapper, 2)?;
-    let eager = flag(eager, 3)?;
-    Ok(Row::Mark(MarkRow::Carrier {
-        record,
-        wrapper,
-        eager,
-    }))
-}
-
-fn bind_row(symbol: &[u8], record: &[u8]) -> Result<Row, LineFault>
-    ensures { result ≡ read_as (every.Mark marks.Bind) (symbol.now ∷ «record».now ∷ []) }
-{
-    let symbol = number(symbol, 1)?;
-    let record = number(record, 2)?;
-    Ok(Row::Mark(MarkRow::Bind { symbol, record }))
-}
-
-pub(crate) fn mark_row(line: MarkLine<'_>) -> Result<Row, LineFault>
-    ensures { result ≡ read_as (mark_shown line.entry).0 (mark_shown line.entry).1 }
-{
-    match line {
-        MarkLine::Wrapped { module, symbol } => wrapped_row(module, symbol),
-        MarkLine::Transparent { module } => Ok(Row::Mark(MarkRow::Transparent(number(module, 1)?))),
-        MarkLine::Route { module } => Ok(Row::Mark(MarkRow::Route(number(module, 1)?))),
-        MarkLine::LocalRecord { record } => Ok(Row::Mark(MarkRow::LocalRecord(number(record, 1)?))),
-        MarkLine::Nested { record } => Ok(Row::Mark(MarkRow::Nested(number(record, 1)?))),
-        MarkLine::Facade { symbol } => Ok(Row::Mark(MarkRow::Facade(number(symbol, 1)?))),
-        MarkLine::Carrier {
-            record,
-            wrapper,
-            eager,
-        } => carrier_row(record, wrapper, eager),
-        MarkLine::Bind { symbol, record } => bind_row(symbol, record),
+    fn row(self) -> Result<Row, LineFault> {
+        let row = match self {
+            MarkLine::Wrapped { module, symbol } => MarkRow::Wrapped {
+                module: value(module, 1)?,
+                symbol: value(symbol, 2)?,
+            },
+            MarkLine::Transparent { module } => MarkRow::Transparent(value(module, 1)?),
+            MarkLine::Route { module } => MarkRow::Route(value(module, 1)?),
+            MarkLine::LocalRecord { record } => MarkRow::LocalRecord(value(record, 1)?),
+            MarkLine::Nested { record } => MarkRow::Nested(value(record, 1)?),
+            MarkLine::Facade { symbol } => MarkRow::Facade(value(symbol, 1)?),
+            MarkLine::Carrier {
+                record,
+                wrapper,
+                eager,
+            } => MarkRow::Carrier {
+                record: value(record, 1)?,
+                wrapper: value(wrapper, 2)?,
+                eager: value(eager, 3)?,
+            },
+            MarkLine::Bind { symbol, record } => MarkRow::Bind {
+                symbol: value(symbol, 1)?,
+                record: value(record, 2)?,
+            },
+        };
+        Ok(Row::Mark(row))
     }
 }
 
-pub(crate) fn host_row(line: HostLine<'_>) -> Result<Row, LineFault>
-    ensures { result ≡ read_as (host_shown line.entry).0 (host_shown line.entry).1 }
-{
-    match line {
-        HostLine::Used { symbol } => Ok(Row::Host(HostRow::Used(number(symbol, 1)?))),
-        HostLine::Reachable { symbol } => Ok(Row::Host(HostRow::Reachable(number(symbol, 1)?))),
-        HostLine::Owns { module } => Ok(Row::Host(HostRow::Owns(number(module, 1)?))),
+impl Written for HostLine<'_> {
+    ghost shown = { host_shown };
+
+    fn row(self) -> Result<Row, LineFault> {
+        let row = match self {
+            HostLine::Used { symbol } => HostRow::Used(value(symbol, 1)?),
+            HostLine::Reachable { symbol } => HostRow::Reachable(value(symbol, 1)?),
+            HostLine::Owns { module } => HostRow::Owns(value(module, 1)?),
+        };
+        Ok(Row::Host(row))
     }
 }
 
@@ -76,7 +61,7 @@ pub(crate) fn host_row(line: HostLine<'_>) -> Result<Row, LineFault>
 fn named(question: &[u8], word: &[u8]) -> Result<(), LineFault>
     ensures { MatchResult result (λ _. bytes_eq question.now word.now ≡ true) (λ e. (e ≡ LineFault.Value 1) × (bytes_eq question.now word.now ≡ false)) }
 {
-    if is(question, word) {
+    if question == word {
         return Ok(());
     }
     Err(LineFault::Value { field: 1 })
@@ -91,50 +76,32 @@ fn target(kind: TargetKind, number: u16) -> Target
     }
 }
 
-fn ask_record_row(question: &[u8], record: &[u8]) -> Result<Row, LineFault>
-    ensures { result ≡ read_as (every.Ask asks.Record) (question.now ∷ «record».now ∷ []) }
-{
-    named(question, b"record")?;
-    let record = number(record, 2)?;
-    Ok(Row::Ask(AskRow::Record(record)))
-}
+impl Written for AskLine<'_> {
+    ghost shown = { ask_shown };
 
-fn ask_circle_row(question: &[u8]) -> Result<Row, LineFault>
-    ensures { result ≡ read_as (every.Ask asks.Circle) (question.now ∷ []) }
-{
-    named(question, b"circle")?;
-    Ok(Row::Ask(AskRow::Circle))
-}
-
-fn ask_caller_row(
-    question: &[u8],
-    record: &[u8],
-    kind: &[u8],
-    place: &[u8],
-) -> Result<Row, LineFault>
-    ensures { result ≡ read_as (every.Ask asks.Caller) (question.now ∷ «record».now ∷ kind.now ∷ place.now ∷ []) }
-{
-    named(question, b"caller")?;
-    let record = number(record, 2)?;
-    let kind = target_kind(kind, 3)?;
-    let place = number(place, 4)?;
-    Ok(Row::Ask(AskRow::Caller {
-        record,
-        target: target(kind, place),
-    }))
-}
-
-pub(crate) fn ask_row(line: AskLine<'_>) -> Result<Row, LineFault>
-    ensures { result ≡ read_as (ask_shown line.entry).0 (ask_shown line.entry).1 }
-{
-    match line {
-        AskLine::Record { question, record } => ask_record_row(question, record),
-        AskLine::Circle { question } => ask_circle_row(question),
-        AskLine::Caller {
-            question,
-            record,
-            target,
-            number,
-        } => ask_caller_row(question, record, target, number),
+    fn row(self) -> Result<Row, LineFault> {
+        let row = match self {
+            AskLine::Record { question, record } => {
+                named(question, b"record")?;
+                AskRow::Record(value(record, 2)?)
+            }
+            AskLine::Circle { question } => {
+                named(question, b"circle")?;
+                AskRow::Circle
+            }
+            AskLine::Caller {
+                question,
+                record,
+                target: kind,
+                number,
+            } => {
+                named(question, b"caller")?;
+                AskRow::Caller {
+                    record: value(record, 2)?,
+                    target: target(value(kind, 3)?, value(number, 4)?),
+                }
+            }
+        };
+        Ok(Row::Ask(row))
     }
 }

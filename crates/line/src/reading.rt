@@ -5,10 +5,9 @@ ghost use Rattle.line.specs.Lines.{read_as, row_of};
 ghost use Rattle.line.specs.Shown.{shown};
 
 use crate::lines::Line;
-use crate::loads::load_row;
-use crate::marks::{ask_row, host_row, mark_row};
 use crate::rows::Row;
 use crate::splits::split;
+use crate::written::Written;
 use parts::LineFault;
 
 impl Line<'_> {
@@ -17,10 +16,10 @@ impl Line<'_> {
         ensures { result ≡ read_as (shown self.entry).0 (shown self.entry).1 }
     {
         match self {
-            Line::Load(line) => load_row(line),
-            Line::Mark(line) => mark_row(line),
-            Line::Host(line) => host_row(line),
-            Line::Ask(line) => ask_row(line),
+            Line::Load(line) => line.row(),
+            Line::Mark(line) => line.row(),
+            Line::Host(line) => line.row(),
+            Line::Ask(line) => line.row(),
         }
     }
 }

@@ -5,7 +5,7 @@ use values::{
     WrapKind,
 };
 
-// The numbers of rows: a row's place among the rows of its word, from 0.
+// The numbers of rows: a row's place among the rows of its word, from 0. A book names rows by them.
 pub type ModuleIdx = u16;
 
 pub type SymbolRef = u16;
@@ -17,13 +17,13 @@ pub type StmtInfoIdx = u16;
 // The number of an exported or imported name; 0 is `default`.
 pub type Name = u16;
 
-#[derive(Clone, Copy)]
+#[derive(Debug, Clone, Copy, PartialEq, Eq)]
 pub struct ModeRow {
     pub strict: bool,
     pub inline: InlineConstMode,
 }
 
-#[derive(Clone, Copy)]
+#[derive(Debug, Clone, Copy, PartialEq, Eq)]
 pub struct ModuleRow {
     pub kind: ModuleKind,
     pub exports: ExportsKind,
@@ -36,7 +36,7 @@ pub struct ModuleRow {
     pub namespace: Option<SymbolRef>,
 }
 
-#[derive(Clone, Copy)]
+#[derive(Debug, Clone, Copy, PartialEq, Eq)]
 pub struct SymbolRow {
     pub owner: ModuleIdx,
     pub canonical: SymbolRef,
@@ -44,7 +44,7 @@ pub struct SymbolRow {
     pub through: SymbolRef,
 }
 
-#[derive(Clone, Copy)]
+#[derive(Debug, Clone, Copy, PartialEq, Eq)]
 pub struct RecordRow {
     pub module: ModuleIdx,
     pub kind: RecordKind,
@@ -53,25 +53,25 @@ pub struct RecordRow {
     pub reexport_only: bool,
 }
 
-#[derive(Clone, Copy)]
+#[derive(Debug, Clone, Copy, PartialEq, Eq)]
 pub struct StatementRow {
     pub module: ModuleIdx,
     pub included: bool,
 }
 
-#[derive(Clone, Copy)]
+#[derive(Debug, Clone, Copy, PartialEq, Eq)]
 pub struct UsesRow {
     pub statement: StmtInfoIdx,
     pub record: ImportRecordIdx,
 }
 
-#[derive(Clone, Copy)]
+#[derive(Debug, Clone, Copy, PartialEq, Eq)]
 pub struct ReadsRow {
     pub statement: StmtInfoIdx,
     pub symbol: SymbolRef,
 }
 
-#[derive(Clone, Copy)]
+#[derive(Debug, Clone, Copy, PartialEq, Eq)]
 pub struct MemberRow {
     pub statement: StmtInfoIdx,
     pub object: SymbolRef,
@@ -79,7 +79,7 @@ pub struct MemberRow {
     pub resolution: Resolution,
 }
 
-#[derive(Clone, Copy)]
+#[derive(Debug, Clone, Copy, PartialEq, Eq)]
 pub struct ImportRow {
     pub module: ModuleIdx,
     pub local: SymbolRef,
@@ -88,17 +88,18 @@ pub struct ImportRow {
     pub name: Imported,
 }
 
-#[derive(Clone, Copy)]
+#[derive(Debug, Clone, Copy, PartialEq, Eq)]
 pub struct ExportRow {
     pub module: ModuleIdx,
     pub name: Name,
+    // which of the fields below mean something; all are kept as they were written
     pub class: ExportClass,
     pub symbol: SymbolRef,
     pub record: Option<ImportRecordIdx>,
     pub imported: Option<Name>,
 }
 
-#[derive(Clone, Copy)]
+#[derive(Debug, Clone, Copy, PartialEq, Eq)]
 pub struct ConstantRow {
     pub symbol: SymbolRef,
     pub commonjs: bool,
@@ -106,7 +107,7 @@ pub struct ConstantRow {
 }
 
 // The rows that a draft takes.
-#[derive(Clone, Copy)]
+#[derive(Debug, Clone, Copy, PartialEq, Eq)]
 pub enum LoadRow {
     Mode(ModeRow),
     Module(ModuleRow),
@@ -122,7 +123,7 @@ pub enum LoadRow {
 }
 
 // The rows that mark a linked book.
-#[derive(Clone, Copy)]
+#[derive(Debug, Clone, Copy, PartialEq, Eq)]
 pub enum MarkRow {
     Wrapped {
         module: ModuleIdx,
@@ -145,7 +146,7 @@ pub enum MarkRow {
 }
 
 // The rows that fill the declared host: members of its three sets.
-#[derive(Clone, Copy)]
+#[derive(Debug, Clone, Copy, PartialEq, Eq)]
 pub enum HostRow {
     Used(SymbolRef),
     Reachable(SymbolRef),
@@ -153,14 +154,14 @@ pub enum HostRow {
 }
 
 // What an init call is made to: a module, or the carrier that a record names.
-#[derive(Clone, Copy)]
+#[derive(Debug, Clone, Copy, PartialEq, Eq)]
 pub enum Target {
     Module(ModuleIdx),
     Carrier(ImportRecordIdx),
 }
 
 // The questions that a row can put to a linked book.
-#[derive(Clone, Copy)]
+#[derive(Debug, Clone, Copy, PartialEq, Eq)]
 pub enum AskRow {
     Record(ImportRecordIdx),
     Circle,
@@ -170,7 +171,7 @@ pub enum AskRow {
     },
 }
 
-#[derive(Clone, Copy)]
+#[derive(Debug, Clone, Copy, PartialEq, Eq)]
 pub enum Row {
     Load(LoadRow),
     Mark(MarkRow),

@@ -1,48 +1,30 @@
 -- Where a line is cut at its commas.
-use Rattle.std.proofs.Common.{◌≡◌, ℕ, ◌+◌, ◌<◌, ◌≤◌, true, false, eqb, List, [], ◌∷◌, ◌++◌, length, get_or, take, drop, Some, None, Option, sym, refl, ap, ◌∙◌, ⊎_elim, append_assoc, append-nil, eq-eqb, ne_eqb, eqb-true}
+use Rattle.std.proofs.Common.{◌≡◌, ℕ, ◌+◌, ◌-◌, ltb, eqb, cond, Bool, List, [], ◌∷◌, length, take, drop, Some, None, Option, sym, refl, ap, ◌∙◌, ⊎_elim, eqb-true, arith}
 use borrow.Author.Tests.{eqb-false}
-use Rattle.std.proofs.lemmas.List.{take_more, drop_more, take_all, drop_all}
+use Rattle.std.specs.List.{position, position_or_len}
+use Rattle.std.proofs.lemmas.Grind.{common_steps}
 use Rattle.std.proofs.lemmas.Bool.{cases_Bool}
 use Rattle.parts.specs.Parts.{front, after, joined, NoComma}
 
--- no comma among the first i bytes
-pub record Sofar (xs : List ℕ) (i : ℕ) : Type 0 where
-  pub before : take i xs ++ front (drop i xs) ≡ front xs
-  pub behind : after (drop i xs) ≡ after xs
+-- what `field` looks for
+abbrev pub comma : ℕ → Bool
+comma b = eqb b 44
 
-go_front : (b : ℕ) (bs : List ℕ) → eqb b 44 ≡ false → front (b ∷ bs) ≡ b ∷ front bs
-go_front b bs e = rw e refl
+-- the two parts by the place of the first comma
+front_is : (xs : List ℕ) → front xs ≡ take (position_or_len comma xs) xs
+front_is [] = refl
+front_is (b ∷ bs) = ⊎_elim (λ e. rw e (grind (arith, common_steps))) (λ e. rw e (grind (arith, common_steps, front_is bs))) (cases_Bool (eqb b 44))
 
-go_after : (b : ℕ) (bs : List ℕ) → eqb b 44 ≡ false → after (b ∷ bs) ≡ after bs
-go_after b bs e = rw e refl
+after_is : (xs : List ℕ) → after xs ≡ cond (ltb (position_or_len comma xs) (length xs)) (Some (drop (position_or_len comma xs + 1) xs)) None
+after_is [] = refl
+after_is (b ∷ bs) = ⊎_elim (λ e. rw e (grind (arith, common_steps))) (λ e. rw e (grind (arith, common_steps, after_is bs))) (cases_Bool (eqb b 44))
 
-end_front : (b : ℕ) (bs : List ℕ) → eqb b 44 ≡ true → front (b ∷ bs) ≡ []
-end_front b bs e = rw e refl
+-- what is cut at the first comma, and what is left whole where there is none
+pub at_comma : (xs : List ℕ) (i : ℕ) → Some i ≡ position comma xs → (take i xs ≡ front xs) × (Some (take (length xs - (i + 1)) (drop (i + 1) xs)) ≡ after xs)
+at_comma xs i e = (grind (arith, common_steps, front_is xs, e), grind (arith, common_steps, after_is xs, e))
 
-end_after : (b : ℕ) (bs : List ℕ) → eqb b 44 ≡ true → after (b ∷ bs) ≡ Some bs
-end_after b bs e = rw e refl
-
-pub further : (xs : List ℕ) (i : ℕ) → i < length xs → (get_or xs i 0 ≡ 44 → ⊥) → Sofar xs i → Sofar xs (i + 1)
-further xs i lt ne s =
-    let e = ne_eqb (get_or xs i 0) 44 ne in
-    let d = drop_more xs i 0 lt in
-    let f : front (drop i xs) ≡ get_or xs i 0 ∷ front (drop (i + 1) xs) = ap front d ∙ go_front _ (drop (i + 1) xs) e in
-    let r : after (drop i xs) ≡ after (drop (i + 1) xs) = ap after d ∙ go_after _ (drop (i + 1) xs) e in
-    record {
-      before = ap (λ l. l ++ front (drop (i + 1) xs)) (take_more xs i 0 lt) ∙ append_assoc (take i xs) (get_or xs i 0 ∷ []) (front (drop (i + 1) xs)) ∙ ap (λ l. take i xs ++ l) (sym f) ∙ s.before;
-      behind = sym r ∙ s.behind;
-    }
-
-pub at_comma : (xs : List ℕ) (i : ℕ) → i < length xs → get_or xs i 0 ≡ 44 → Sofar xs i → (take i xs ≡ front xs) × (Some (drop (i + 1) xs) ≡ after xs)
-at_comma xs i lt eq s =
-    let e = eq-eqb (get_or xs i 0) 44 eq in
-    let d = drop_more xs i 0 lt in
-    (sym (append-nil _) ∙ ap (λ l. take i xs ++ l) (sym (ap front d ∙ end_front _ (drop (i + 1) xs) e)) ∙ s.before, sym (ap after d ∙ end_after _ (drop (i + 1) xs) e) ∙ s.behind)
-
-pub at_end : (xs : List ℕ) (i : ℕ) → length xs ≤ i → Sofar xs i → (xs ≡ front xs) × (None ≡ after xs)
-at_end xs i le s =
-    let d = drop_all i xs le in
-    (sym (take_all i xs le) ∙ sym (append-nil _) ∙ ap (λ l. take i xs ++ l) (sym (ap front d)) ∙ s.before, sym (ap after d) ∙ s.behind)
+pub at_end : (xs : List ℕ) → None ≡ position comma xs → (xs ≡ front xs) × (None ≡ after xs)
+at_end xs e = (grind (arith, common_steps, front_is xs, e), grind (arith, common_steps, after_is xs, e))
 
 -- a part and what is left make the line again
 pub rejoined : (xs : List ℕ) → joined (front xs) (after xs) ≡ xs

@@ -17,10 +17,18 @@ layer_word layer.Row = codes "row"
 layer_word layer.Link = codes "link"
 layer_word layer.Ask = codes "ask"
 
+-- what stands for a part of which nothing is told
+abbrev pub dash : List ℕ
+dash = codes "-"
+
+-- what is made of a value, or something else where there is none
+abbrev pub made_or : {T U : Type 0} → (T → U) → U → Option T → U
+made_or make other None = other
+made_or make other (Some x) = make x
+
 -- a number, or `-` where there is none
 abbrev pub or_dash : Option ℕ → List ℕ
-or_dash None = codes "-"
-or_dash (Some n) = decimal n
+or_dash = made_or decimal dash
 
 -- the line that a fault prints: fault,LINE,LAYER,NUMBER,ROW,FIELD
 abbrev pub fault_text : FaultLine → List ℕ

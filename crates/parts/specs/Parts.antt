@@ -1,5 +1,6 @@
 -- The parts of a line between its commas.
 use Rattle.std.specs.Prelude.{ℕ, cond, List, [], ◌∷◌, ◌++◌, Some, None, Option, ◌==◌, ◌≢◌}
+use Rattle.std.specs.List.{slice_split}
 use Rattle.std.specs.Borrow.{Bor}
 
 -- the bytes before the first comma
@@ -12,15 +13,9 @@ abbrev pub after : List ℕ → Option (List ℕ)
 after [] = None
 after (b ∷ bs) = cond (b == 44) (Some bs) (after bs)
 
--- one more byte at the front of the first part
-abbrev pub grown : ℕ → List (List ℕ) → List (List ℕ)
-grown b [] = (b ∷ []) ∷ []
-grown b (p ∷ ps) = (b ∷ p) ∷ ps
-
 -- the parts between the commas: one more than there are commas
 abbrev pub parts : List ℕ → List (List ℕ)
-parts [] = [] ∷ []
-parts (b ∷ bs) = cond (b == 44) ([] ∷ parts bs) (grown b (parts bs))
+parts bs = slice_split (λ b. b == 44) bs
 
 -- the parts of what is left of a line, none where nothing is left
 abbrev pub fields : Option (List ℕ) → List (List ℕ)

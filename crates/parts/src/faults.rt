@@ -3,9 +3,10 @@
 ghost use Rattle.std.specs.Prelude.{◌≡◌, Some};
 ghost use Rattle.parts.specs.Faults.{line_told, layer_word, fault_text};
 
+use crate::dashes::OrDash;
 use std::fmt;
 
-#[derive(Clone, Copy)]
+#[derive(Debug, Clone, Copy, PartialEq, Eq)]
 pub enum LineFault {
     // too long, an unknown word, or a wrong count of fields
     Form,
@@ -14,7 +15,7 @@ pub enum LineFault {
 }
 
 // Where a refusal comes from.
-#[derive(Clone, Copy)]
+#[derive(Debug, Clone, Copy, PartialEq, Eq)]
 pub enum Layer {
     Line,
     Row,
@@ -23,18 +24,19 @@ pub enum Layer {
 }
 
 // What a refusal tells: its number, its layer, and the field that it is about, if any.
-#[derive(Clone, Copy)]
+// The number is what is printed; the kinds of refusals are the enums that this is made of, so an enum here would only name them again.
+#[derive(Debug, Clone, Copy, PartialEq, Eq)]
 pub struct Told {
     pub number: u8,
     pub layer: Layer,
     pub field: Option<u8>,
 }
 
-impl LineFault {
-    pub fn told(self) -> Told
-        ensures { result ≡ line_told self }
-    {
-        match self {
+impl From<LineFault> for Told {
+    ghost from_gives = { λ e t. t ≡ line_told e };
+
+    fn from(fault: LineFault) -> Told {
+        match fault {
             LineFault::Form => Told {
                 number: 1,
                 layer: Layer::Line,
@@ -50,6 +52,7 @@ impl LineFault {
 }
 
 impl Layer {
+    // `Display` would be no plainer in its place: it gives no text without a writer, which may fail.
     pub fn word(self) -> &'static str
         ensures { result.now ≡ layer_word self }
     {
@@ -62,8 +65,16 @@ impl Layer {
     }
 }
 
+impl fmt::Display for Layer {
+    ghost output = { λ l. Some (layer_word l) };
+
+    fn fmt<W: fmt::Write>(&self, f: &mut fmt::Formatter<W>) -> fmt::Result {
+        f.write_str(self.word())
+    }
+}
+
 // What is printed of a refusal: the number of the line, from 1, and what the refusal tells.
-#[derive(Clone, Copy)]
+#[derive(Debug, Clone, Copy, PartialEq, Eq)]
 pub struct FaultLine {
     pub line: u64,
     pub told: Told,
@@ -74,11 +85,9 @@ impl fmt::Display for FaultLine {
 
     fn fmt<W: fmt::Write>(&self, f: &mut fmt::Formatter<W>) -> fmt::Result {
         let line = self.line;
-        let layer = self.told.layer.word();
+        let layer = self.told.layer;
         let number = self.told.number;
-        match self.told.field {
-            Some(field) => write!(f, "fault,{line},{layer},{number},-,{field}"),
-            None => write!(f, "fault,{line},{layer},{number},-,-"),
-        }
+        let field = OrDash(self.told.field);
+        write!(f, "fault,{line},{layer},{number},-,{field}")
     }
 }

@@ -10,10 +10,8 @@ pub fn field(line: &[u8]) -> (&[u8], Option<&[u8]>)
     ensures whole { joined result.0.now (seen result.1) ≡ line.now }
     ensures plain { NoComma result.0.now }
 {
-    for i in 0..line.len() {
-        if line[i] == b',' {
-            return (&line[0..i], Some(&line[i + 1..line.len()]));
-        }
+    match line.iter().position(|b| *b == b',') {
+        Some(i) => (&line[..i], Some(&line[i + 1..])),
+        None => (line, None),
     }
-    (line, None)
 }

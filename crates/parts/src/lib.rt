@@ -3,10 +3,11 @@
 #![tactic(auto)]
 
 mod buffer;
-mod buffers;
+mod dashes;
 mod faults;
 mod fields;
 
 pub use buffer::LineBuffer;
+pub use dashes::OrDash;
 pub use faults::{FaultLine, Layer, LineFault, Told};
 pub use fields::field;

@@ -1,6 +1,6 @@
 // Rows by number. Past the end of a table stands a row that means nothing.
 
-ghost use Rattle.std.specs.Prelude.{◌≡◌, ℕ, ◌<◌, length, slice_index_or};
+ghost use Rattle.std.specs.Prelude.{◌≡◌, slice_index_or};
 ghost use Rattle.tables.specs.Lookups.{module_at, symbol_at, record_at, export_at};
 ghost use Rattle.rows.specs.Modules.{normal, imported_module};
 ghost use Rattle.rows.specs.View.{graph};
@@ -13,9 +13,10 @@ use values::ModuleKind;
 fn row_at<T: Copy>(rows: &[T], i: usize, absent: T) -> T
     ensures { result ≡ slice_index_or rows.now i absent }
 {
-    if i < rows.len() { rows[i] } else { absent }
+    rows.get(i).copied().unwrap_or(absent)
 }
 
+// One name for each table over `row_at`: one function for all would be no plainer, as each call would have to name the row's type.
 impl Rows {
     pub fn module(&self, i: ModuleIdx) -> ModuleRow
         ensures { result ≡ module_at (graph self.now) i }
@@ -57,21 +58,15 @@ impl Rows {
     pub fn is_normal(&self, module: ModuleIdx) -> bool
         ensures { result ≡ normal (graph self.now) «module» }
     {
-        match self.module(module).kind {
-            ModuleKind::Normal => true,
-            ModuleKind::External => false,
-        }
+        matches!(self.module(module).kind, ModuleKind::Normal)
     }
 
     // The importee of a record, where it is a normal module.
     pub fn imported_module(&self, record: ImportRecordIdx) -> Option<ModuleIdx>
         ensures { result ≡ imported_module (graph self.now) «record» }
     {
-        let importee = self.record(record).importee?;
-        if self.is_normal(importee) {
-            Some(importee)
-        } else {
-            None
-        }
+        self.record(record)
+            .importee
+            .filter(|importee| self.is_normal(*importee))
     }
 }

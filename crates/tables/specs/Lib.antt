@@ -6,6 +6,7 @@ pub mod Limits
 pub mod Lines
 pub mod Load
 pub mod Lookups
+pub mod Quotas
 pub mod References
 pub mod Room
 pub mod Slices

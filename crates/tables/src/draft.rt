@@ -1,4 +1,5 @@
 // A draft: a book whose rows are still being loaded.
+// A model would be no plainer: contracts could then not say that a refused row leaves all of the draft as it was.
 
 use crate::references::References;
 use crate::statements::Statements;

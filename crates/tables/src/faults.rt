@@ -7,7 +7,7 @@ ghost use Rattle.tables.specs.Faults.{row_told, book_told};
 
 use parts::{Layer, LineFault, Told};
 
-#[derive(Clone, Copy)]
+#[derive(Debug, Clone, Copy, PartialEq, Eq)]
 pub enum RowFault {
     // the line is refused
     Line(LineFault),
@@ -17,7 +17,7 @@ pub enum RowFault {
     Twice,
 }
 
-#[derive(Clone, Copy)]
+#[derive(Debug, Clone, Copy, PartialEq, Eq)]
 pub enum BookFault {
     Row(RowFault),
 }
@@ -38,12 +38,12 @@ impl From<RowFault> for BookFault {
     }
 }
 
-impl RowFault {
-    pub fn told(self) -> Told
-        ensures { result ≡ row_told self }
-    {
-        match self {
-            RowFault::Line(fault) => fault.told(),
+impl From<RowFault> for Told {
+    ghost from_gives = { λ e t. t ≡ row_told e };
+
+    fn from(fault: RowFault) -> Told {
+        match fault {
+            RowFault::Line(fault) => Told::from(fault),
             RowFault::Full => Told {
                 number: 4,
                 layer: Layer::Row,
@@ -58,13 +58,12 @@ impl RowFault {
     }
 }
 
-impl BookFault {
-    pub fn told(self) -> Told
-        ensures { result ≡ book_told self }
-    {
-        match self {
-            BookFault::Row(RowFault::Line(fault)) => fault.told(),
-            BookFault::Row(fault) => fault.told(),
+impl From<BookFault> for Told {
+    ghost from_gives = { λ e t. t ≡ book_told e };
+
+    fn from(fault: BookFault) -> Told {
+        match fault {
+            BookFault::Row(fault) => Told::from(fault),
         }
     }
 }

@@ -1,13 +1,16 @@
 // What a table takes, and what it refuses.
 
-ghost use Rattle.std.specs.Prelude.{◌≡◌, ℕ, Bool, false, List, [], ◌∷◌, ◌++◌, length, is_ok, IfOk, if◌then◌else◌};
-ghost use Rattle.tables.specs.Room.{rows_of, limit_of, fits, fits_once, any};
+ghost use Rattle.std.specs.Prelude.{◌≡◌, Bool, [], length, IfOk};
+ghost use Rattle.std.specs.List.{list_any};
+ghost use Rattle.tables.specs.Room.{rows_of, limit_of, fits, fits_once, appended, Takes};
 
 use crate::faults::RowFault;
+use crate::room::below;
 use crate::table::Table;
 use std::alloc::{AllocError, Global};
 
 // Rows of which a table has at most one that is the same, by the fields that tell them apart.
+// A key with its own == would be no plainer, since each type of row would need a type and a function for it in place of this one line; and a derived == would compare every field.
 pub(crate) trait Distinct {
     ghost same: { Self → Self → Bool };
 
@@ -36,48 +39,44 @@ impl<T> Table<T> {
     {
         self.rows.as_slice()
     }
+
+    fn room(&self) -> Result<(), RowFault>
+        ensures { result ≡ fits (rows_of self.now) (limit_of self.now) }
+    {
+        below(self.rows.len(), self.limit)
+    }
 }
 
 impl<T: Copy> Table<T> {
     // One row more at the end, unless the table is at its limit.
     pub(crate) fn push(&mut self, row: T) -> Result<(), RowFault>
-        ensures value { result ≡ fits (rows_of self.old) (limit_of self.old) }
-        ensures after { rows_of self.new ≡ (if is_ok result then rows_of self.old ++ row ∷ [] else rows_of self.old) }
-        ensures limit { limit_of self.new ≡ limit_of self.old }
-        ensures refused { is_ok result ≡ false → self.new ≡ self.old }
+        ensures { Takes rows_of limit_of self.old self.new result
+            (fits (rows_of self.old) (limit_of self.old))
+            (appended (rows_of self.old) row result) }
     {
-        if self.rows.len() >= self.limit {
-            return Err(RowFault::Full);
-        }
+        self.room()?;
         self.rows.push_reserved(row);
         Ok(())
     }
 }
 
-// Whether one of the rows is the same as this.
-fn has_same<T: Distinct>(rows: &[T], row: &T) -> bool
-    ensures { result ≡ any (T.same row.now) rows.now }
-{
-    for other in rows {
-        if row.is_same(other) {
-            return true;
-        }
-    }
-    false
-}
-
 impl<T: Distinct + Copy> Table<T> {
+    // Whether one of the rows is the same as this.
+    // No map is used: all memory is reserved when a draft is made, and a load cannot fail for want of memory.
+    fn has_same(&self, row: &T) -> bool
+        ensures { result ≡ list_any (T.same row.now) (rows_of self.now) }
+    {
+        self.rows.iter().any(|other| row.is_same(other))
+    }
+
     // One row more, unless the table is at its limit, or has a row that is the same.
     pub(crate) fn push_once(&mut self, row: T) -> Result<(), RowFault>
-        ensures value { result ≡ fits_once (T.same row) (rows_of self.old) (limit_of self.old) }
-        ensures after { rows_of self.new ≡ (if is_ok result then rows_of self.old ++ row ∷ [] else rows_of self.old) }
-        ensures limit { limit_of self.new ≡ limit_of self.old }
-        ensures refused { is_ok result ≡ false → self.new ≡ self.old }
+        ensures { Takes rows_of limit_of self.old self.new result
+            (fits_once (T.same row) (rows_of self.old) (limit_of self.old))
+            (appended (rows_of self.old) row result) }
     {
-        if self.rows.len() >= self.limit {
-            return Err(RowFault::Full);
-        }
-        if has_same(self.rows.as_slice(), &row) {
+        self.room()?;
+        if self.has_same(&row) {
             return Err(RowFault::Twice);
         }
         self.rows.push_reserved(row);

@@ -3,7 +3,7 @@
 ghost use Rattle.std.specs.Prelude.{◌≡◌};
 ghost use Rattle.tables.specs.Limits.{full_limits, small_limits};
 
-#[derive(Clone, Copy)]
+#[derive(Debug, Clone, Copy, PartialEq, Eq)]
 pub struct Limits {
     pub modules: u16,
     pub symbols: u16,
@@ -21,6 +21,8 @@ pub struct Limits {
     pub names: u16,
 }
 
+// The two functions differ in nothing but the numbers that each holds, so one function for both would have to take all of them.
+// A constant has no contract that would refuse a wrong number.
 impl Limits {
     // The limits of a whole build.
     pub fn full() -> Limits

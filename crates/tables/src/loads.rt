@@ -2,13 +2,14 @@
 
 ghost use Rattle.std.specs.Prelude.{◌≡◌, false, is_ok, IfOk};
 ghost use Rattle.tables.specs.Graph.{no_rows};
-ghost use Rattle.tables.specs.Load.{same_import, same_export, same_constant, mode_fits, admitted, loaded};
+ghost use Rattle.tables.specs.Load.{same_import, same_export, same_constant, admitted, loaded};
 ghost use Rattle.tables.specs.View.{graph, limits_of};
 
 use crate::draft::Draft;
 use crate::faults::RowFault;
 use crate::fills::Distinct;
 use crate::limits::Limits;
+use crate::reference::Reference;
 use crate::references::References;
 use crate::statements::Statements;
 use crate::table::Table;
@@ -96,8 +97,8 @@ impl Draft {
             LoadRow::Record(row) => self.records.push(row),
             LoadRow::Statement(row) => self.statements.push(row),
             LoadRow::Uses(row) => self.uses.push(row),
-            LoadRow::Reads(row) => self.references.push_reads(row),
-            LoadRow::Member(row) => self.references.push_member(row),
+            LoadRow::Reads(row) => self.references.push(Reference::Reads(row)),
+            LoadRow::Member(row) => self.references.push(Reference::Member(row)),
             LoadRow::Import(row) => self.imports.push_once(row),
             LoadRow::Export(row) => self.exports.push_once(row),
             LoadRow::Constant(row) => self.constants.push_once(row),

@@ -1,13 +1,9 @@
-// What the statements take, and the lookup of one flag.
+// One flag more, and the lookup of one.
 
-ghost use Rattle.std.specs.Prelude.{◌≡◌, ℕ, ◌+◌, ◌/◌, ◌<◌, ◌≤◌, Bool, false, List, [], ◌∷◌, ◌++◌, length, is_ok, IfOk, if◌then◌else◌, vec_len, vec_capacity, ◌≢◌, slice_index_or};
-ghost use Rattle.tables.specs.Flags.{bit, flag_at, statements_of, no_statement};
-ghost use Rattle.tables.specs.Room.{limit_of, fits};
+ghost use Rattle.std.specs.Prelude.{◌≡◌, ℕ, ◌+◌, ◌/◌, ◌<◌, ◌≤◌, false, [], ◌∷◌, ◌++◌, IfOk, ◌≢◌, slice_index_or, vec_capacity};
+ghost use Rattle.tables.specs.Flags.{bit, flags_of};
 
-use crate::faults::RowFault;
-use crate::statements::Statements;
-use crate::table::Table;
-use line::{ModuleIdx, StatementRow};
+use crate::flags::Flags;
 use std::alloc::{AllocError, Global};
 
 // A word with its bit k as `on` says.
@@ -16,76 +12,40 @@ fn with_bit(word: u32, k: u32, on: bool) -> u32
     ensures here { bit result k ≡ on }
     ensures others { (j : ℕ) → (j ≢ k) → bit result j ≡ bit word j }
 {
-    let held = (word >> k) % 2 == 1;
-    if held == on { word } else { word ^ (1u32 << k) }
+    let mask = 1u32 << k;
+    if on { word | mask } else { word & !mask }
 }
 
-// Flag i of some words, by quotient and remainder; no flag past the end is set.
-fn flag(words: &[u32], i: usize) -> bool
-    ensures { result ≡ flag_at words.now i }
-{
-    let at = i / 32;
-    if at >= words.len() {
-        return false;
-    }
-    (words[at] >> (i % 32) as u32) % 2 == 1
-}
-
-// One flag more, number n, after n flags in as many words as they need.
-fn push_flag(words: &mut Vec<u32>, n: usize, on: bool)
-    requires words { vec_len words.old ≡ (n + 31) / 32 }
-    requires room { (n + 32) / 32 ≤ vec_capacity words.old }
-    ensures words { vec_len words.new ≡ (n + 32) / 32 }
-    ensures room { vec_capacity words.new ≡ vec_capacity words.old }
-    ensures here { flag_at words.new.items n ≡ on }
-    ensures others { (k : ℕ) → (k ≢ n) → flag_at words.new.items k ≡ flag_at words.old.items k }
-{
-    if n % 32 == 0 {
-        words.push_reserved(0);
-    }
-    let at = n / 32;
-    let word = words[at];
-    words[at] = with_bit(word, (n % 32) as u32, on);
-}
-
-impl Statements {
-    pub(crate) fn with_limit(heap: Global, limit: u16) -> Result<Statements, AllocError>
-        ensures { IfOk result (λ s. (statements_of s ≡ []) × (limit_of s.modules ≡ limit)) }
+impl Flags {
+    // No flags, with room for `limit` of them.
+    pub(crate) fn with_limit(heap: Global, limit: u16) -> Result<Flags, AllocError>
+        ensures { IfOk result (λ f. (f.len ≡ 0) × ((limit + 31) / 32 ≤ vec_capacity f.words)) }
     {
-        let modules = Table::with_limit(heap, limit)?;
-        let included = Vec::with_capacity(heap, (usize::from(limit) + 31) / 32)?;
-        Ok(Statements { modules, included })
+        let words = Vec::with_capacity(heap, usize::from(limit).div_ceil(32))?;
+        Ok(Flags { words, len: 0 })
     }
 
-    pub(crate) fn len(&self) -> usize
-        ensures { result ≡ length (statements_of self.now) }
+    // Flag i; no flag past the end is set.
+    pub(crate) fn get(&self, i: usize) -> bool
+        ensures { result ≡ slice_index_or (flags_of self.now) i false }
     {
-        self.modules.len()
+        i < self.len && (self.words[i / 32] >> (i % 32) as u32) % 2 == 1
     }
 
-    // One statement more at the end, unless the table is at its limit.
-    pub(crate) fn push(&mut self, row: StatementRow) -> Result<(), RowFault>
-        ensures value { result ≡ fits (statements_of self.old) (limit_of self.old.modules) }
-        ensures after { statements_of self.new ≡ (if is_ok result then statements_of self.old ++ row ∷ [] else statements_of self.old) }
-        ensures limit { limit_of self.new.modules ≡ limit_of self.old.modules }
-        ensures refused { is_ok result ≡ false → self.new ≡ self.old }
+    // One flag more at the end.
+    pub(crate) fn push(&mut self, on: bool)
+        requires fits { self.old.len < usize.MAX }
+        requires room { (self.old.len + 32) / 32 ≤ vec_capacity self.old.words }
+        ensures flags { flags_of self.new ≡ flags_of self.old ++ on ∷ [] }
+        ensures len { self.new.len ≡ self.old.len + 1 }
+        ensures capacity { vec_capacity self.new.words ≡ vec_capacity self.old.words }
     {
-        let n = self.modules.rows.len();
-        if n >= self.modules.limit {
-            return Err(RowFault::Full);
+        let at = self.len / 32;
+        let words = &mut self.words;
+        if self.len % 32 == 0 {
+            words.push_reserved(0);
         }
-        self.modules.rows.push_reserved(row.module);
-        push_flag(&mut self.included, n, row.included);
-        Ok(())
-    }
-
-    // Whether a statement is included; one that is not there is not.
-    pub(crate) fn is_included(&self, statement: usize) -> bool
-        ensures { result ≡ (slice_index_or (statements_of self.now) statement no_statement).included }
-    {
-        if statement >= self.modules.rows.len() {
-            return false;
-        }
-        flag(self.included.as_slice(), statement)
+        words[at] = with_bit(words[at], (self.len % 32) as u32, on);
+        self.len += 1;
     }
 }

@@ -1,7 +1,7 @@
 use line::{MemberRow, ReadsRow};
 
 // One reference of a statement.
-#[derive(Clone, Copy)]
+#[derive(Debug, Clone, Copy, PartialEq, Eq)]
 pub enum Reference {
     Reads(ReadsRow),
     Member(MemberRow),

@@ -1,15 +1,37 @@
 // What the references take.
 
-ghost use Rattle.std.specs.Prelude.{◌≡◌, Bool, false, List, [], ◌∷◌, ◌++◌, length, is_ok, IfOk, if◌then◌else◌};
-ghost use Rattle.tables.specs.References.{reads_in, members_in};
-ghost use Rattle.tables.specs.Room.{fits};
-ghost use Rattle.tables.specs.declared.reference.Reference.{Reference};
+ghost use Rattle.std.specs.Prelude.{◌≡◌, [], IfOk};
+ghost use Rattle.tables.specs.Quotas.{taken_of, quota_limit, next, references_of, reference_limits, fits_reference};
+ghost use Rattle.tables.specs.Room.{below, appended, Takes};
 
 use crate::faults::RowFault;
+use crate::quota::Quota;
 use crate::reference::Reference;
 use crate::references::References;
-use line::{MemberRow, ReadsRow};
+use crate::room::below;
 use std::alloc::{AllocError, Global};
+
+impl Quota {
+    pub(crate) fn with_limit(limit: u16) -> Quota
+        ensures { (taken_of result ≡ 0) × (quota_limit result ≡ limit) }
+    {
+        Quota {
+            taken: 0,
+            limit: usize::from(limit),
+        }
+    }
+
+    // One row more of this kind, unless there are as many as there can be.
+    fn take(&mut self) -> Result<(), RowFault>
+        ensures { Takes taken_of quota_limit self.old self.new result
+            (below (taken_of self.old) (quota_limit self.old))
+            (next (taken_of self.old) result) }
+    {
+        below(self.taken, self.limit)?;
+        self.taken += 1;
+        Ok(())
+    }
+}
 
 impl References {
     pub(crate) fn with_limits(
@@ -17,47 +39,29 @@ impl References {
         reads: u16,
         members: u16,
     ) -> Result<References, AllocError>
-        ensures { IfOk result (λ t. (t.rows.items ≡ []) × (t.reads_limit ≡ reads) × (t.members_limit ≡ members)) }
+        ensures { IfOk result (λ t. (references_of t ≡ []) × (t.reads.limit ≡ reads) × (t.members.limit ≡ members)) }
     {
-        let reads_limit = usize::from(reads);
-        let members_limit = usize::from(members);
-        let rows = Vec::with_capacity(heap, reads_limit + members_limit)?;
+        let reads = Quota::with_limit(reads);
+        let members = Quota::with_limit(members);
+        let rows = Vec::with_capacity(heap, reads.limit + members.limit)?;
         Ok(References {
             rows,
-            reads: 0,
-            members: 0,
-            reads_limit,
-            members_limit,
+            reads,
+            members,
         })
     }
 
-    // One `reads` row more, unless there are as many as there can be.
-    pub(crate) fn push_reads(&mut self, row: ReadsRow) -> Result<(), RowFault>
-        ensures value { result ≡ fits (reads_in self.old.rows.items) self.old.reads_limit }
-        ensures after { self.new.rows.items ≡ (if is_ok result then self.old.rows.items ++ Reference.Reads row ∷ [] else self.old.rows.items) }
-        ensures limits { (self.new.reads_limit ≡ self.old.reads_limit) × (self.new.members_limit ≡ self.old.members_limit) }
-        ensures refused { is_ok result ≡ false → self.new ≡ self.old }
+    // One row more at the end, unless there are as many of its kind as there can be.
+    pub(crate) fn push(&mut self, row: Reference) -> Result<(), RowFault>
+        ensures { Takes references_of reference_limits self.old self.new result
+            (fits_reference self.old row)
+            (appended (references_of self.old) row result) }
     {
-        if self.reads >= self.reads_limit {
-            return Err(RowFault::Full);
+        match row {
+            Reference::Reads(_) => self.reads.take()?,
+            Reference::Member(_) => self.members.take()?,
         }
-        self.rows.push_reserved(Reference::Reads(row));
-        self.reads += 1;
-        Ok(())
-    }
-
-    // One `member` row more, unless there are as many as there can be.
-    pub(crate) fn push_member(&mut self, row: MemberRow) -> Result<(), RowFault>
-        ensures value { result ≡ fits (members_in self.old.rows.items) self.old.members_limit }
-        ensures after { self.new.rows.items ≡ (if is_ok result then self.old.rows.items ++ Reference.Member row ∷ [] else self.old.rows.items) }
-        ensures limits { (self.new.reads_limit ≡ self.old.reads_limit) × (self.new.members_limit ≡ self.old.members_limit) }
-        ensures refused { is_ok result ≡ false → self.new ≡ self.old }
-    {
-        if self.members >= self.members_limit {
-            return Err(RowFault::Full);
-        }
-        self.rows.push_reserved(Reference::Member(row));
-        self.members += 1;
+        self.rows.push_reserved(row);
         Ok(())
     }
 }

@@ -1,6 +1,5 @@
 // The tables of a draft as they are read: a slice of rows for each.
 
-ghost use Rattle.std.specs.Prelude.{◌≡◌, map};
 ghost use Rattle.tables.specs.Slices.{Shows};
 ghost use Rattle.tables.specs.View.{graph, limits_of};
 
@@ -11,7 +10,7 @@ use line::{
     UsesRow,
 };
 
-#[derive(Clone, Copy)]
+#[derive(Debug, Clone, Copy, PartialEq, Eq)]
 pub struct Slices<'a> {
     pub mode: Option<ModeRow>,
     pub modules: &'a [ModuleRow],

@@ -3,47 +3,38 @@
 ghost use Rattle.std.specs.Prelude.{◌≡◌, false, is_ok};
 ghost use Rattle.line.specs.Lines.{row_of};
 ghost use Rattle.tables.specs.Lines.{row_outcome, line_outcome, graph_after, line_after};
+ghost use Rattle.tables.specs.Room.{Takes};
 ghost use Rattle.tables.specs.View.{graph, limits_of};
 
 use crate::draft::Draft;
 use crate::faults::{BookFault, RowFault};
 use line::Row;
 
-// What became of a line that was not refused.
-#[derive(Clone, Copy)]
-pub enum Taken {
-    // the row stands at the end of its table
-    Loaded,
-    // a mark, a host row or a question, which a draft does not take
-    Other(Row),
-}
-
 impl Draft {
     // The row of a line, taken or refused by the line's own fault inside the row's.
-    fn take_row(&mut self, bytes: &[u8]) -> Result<Taken, RowFault>
-        ensures value { result ≡ row_outcome (limits_of self.old) (graph self.old) (row_of bytes.now) }
-        ensures after { graph self.new ≡ graph_after (limits_of self.old) (graph self.old) (row_of bytes.now) }
-        ensures limits { limits_of self.new ≡ limits_of self.old }
-        ensures refused { is_ok result ≡ false → self.new ≡ self.old }
+    fn take_row(&mut self, bytes: &[u8]) -> Result<Option<Row>, RowFault>
+        ensures { Takes graph limits_of self.old self.new result
+            (row_outcome (limits_of self.old) (graph self.old) (row_of bytes.now))
+            (graph_after (limits_of self.old) (graph self.old) (row_of bytes.now)) }
     {
-        let row = line::read(bytes)?;
-        match row {
+        match line::read(bytes)? {
             Row::Load(row) => {
                 self.load(row)?;
-                Ok(Taken::Loaded)
+                Ok(None)
             }
-            other => Ok(Taken::Other(other)),
+            other => Ok(Some(other)),
         }
     }
 
     // One line of a book. A refused line changes nothing.
-    pub fn load_line(&mut self, bytes: &[u8]) -> Result<Taken, BookFault>
+    // None: its row stands at the end of its table.
+    // Some(row): a mark, a host row or a question, which a draft does not take, is handed back.
+    pub fn load_line(&mut self, bytes: &[u8]) -> Result<Option<Row>, BookFault>
         ensures value { result ≡ line_outcome (limits_of self.old) (graph self.old) bytes.now }
         ensures after { graph self.new ≡ line_after (limits_of self.old) (graph self.old) bytes.now }
         ensures limits { limits_of self.new ≡ limits_of self.old }
         ensures refused { is_ok result ≡ false → self.new ≡ self.old }
     {
-        let taken = self.take_row(bytes)?;
-        Ok(taken)
+        Ok(self.take_row(bytes)?)
     }
 }

@@ -1,5 +1,5 @@
 -- What a field says, by the kind of value that it has to be. Each reading answers None where the field is no value of its kind.
-use Rattle.std.specs.Prelude.{ℕ, ◌+◌, ◌-◌, ◌*◌, Bool, true, false, cond, not, ◌&&◌, List, [], ◌∷◌, length, Some, None, codes, Option, ◌==◌, nat_le, nat_lt, slice_index}
+use Rattle.std.specs.Prelude.{ℕ, ◌+◌, ◌-◌, ◌*◌, Bool, true, false, cond, not, ◌&&◌, List, [], ◌∷◌, length, Some, None, codes, Option, ◌==◌, nat_le, nat_lt, slice_index, find}
 use Rattle.std.specs.Option.{option_map}
 use Rattle.std.specs.Str.{bytes_eq}
 use Rattle.values.specs.declared.values.InlineConstMode.{InlineConstMode}
@@ -80,61 +80,81 @@ imported_of p = name_or_namespace (scalar_of p)
 
 -- the first of some values whose word is this
 abbrev pub word_among : {V : Type 0} → (V → List ℕ) → List V → List ℕ → Option V
-word_among word [] p = None
-word_among word (v ∷ vs) p = cond (bytes_eq p (word v)) (Some v) (word_among word vs p)
+word_among word vs p = find (λ v. bytes_eq p (word v)) vs
 
 abbrev pub flag_word : Bool → List ℕ
 flag_word false = codes "0"
 flag_word true = codes "1"
 
+abbrev pub flags : List Bool
+flags = false ∷ true ∷ []
+
 abbrev pub flag_of : List ℕ → Option Bool
-flag_of p = word_among flag_word (false ∷ true ∷ []) p
+flag_of p = word_among flag_word flags p
 
 abbrev pub inline_word : InlineConstMode → List ℕ
 inline_word inline.Off = codes "none"
 inline_word inline.Smart = codes "smart"
 inline_word inline.All = codes "all"
 
+abbrev pub inline_modes : List InlineConstMode
+inline_modes = inline.Off ∷ inline.Smart ∷ inline.All ∷ []
+
 abbrev pub inline_of : List ℕ → Option InlineConstMode
-inline_of p = word_among inline_word (inline.Off ∷ inline.Smart ∷ inline.All ∷ []) p
+inline_of p = word_among inline_word inline_modes p
 
 abbrev pub module_kind_word : ModuleKind → List ℕ
 module_kind_word Normal = codes "normal"
 module_kind_word External = codes "external"
 
+abbrev pub module_kinds : List ModuleKind
+module_kinds = Normal ∷ External ∷ []
+
 abbrev pub module_kind_of : List ℕ → Option ModuleKind
-module_kind_of p = word_among module_kind_word (Normal ∷ External ∷ []) p
+module_kind_of p = word_among module_kind_word module_kinds p
 
 abbrev pub exports_word : ExportsKind → List ℕ
 exports_word exports.None = codes "none"
 exports_word exports.Esm = codes "esm"
 exports_word exports.CommonJs = codes "cjs"
 
+abbrev pub exports_kinds : List ExportsKind
+exports_kinds = exports.None ∷ exports.Esm ∷ exports.CommonJs ∷ []
+
 abbrev pub exports_of : List ℕ → Option ExportsKind
-exports_of p = word_among exports_word (exports.None ∷ exports.Esm ∷ exports.CommonJs ∷ []) p
+exports_of p = word_among exports_word exports_kinds p
 
 abbrev pub wrap_word : WrapKind → List ℕ
 wrap_word wrap.None = codes "none"
 wrap_word wrap.Cjs = codes "cjs"
 wrap_word wrap.Esm = codes "esm"
 
+abbrev pub wrap_kinds : List WrapKind
+wrap_kinds = wrap.None ∷ wrap.Cjs ∷ wrap.Esm ∷ []
+
 abbrev pub wrap_of : List ℕ → Option WrapKind
-wrap_of p = word_among wrap_word (wrap.None ∷ wrap.Cjs ∷ wrap.Esm ∷ []) p
+wrap_of p = word_among wrap_word wrap_kinds p
 
 abbrev pub record_kind_word : RecordKind → List ℕ
 record_kind_word Import = codes "import"
 record_kind_word Other = codes "other"
 
+abbrev pub record_kinds : List RecordKind
+record_kinds = Import ∷ Other ∷ []
+
 abbrev pub record_kind_of : List ℕ → Option RecordKind
-record_kind_of p = word_among record_kind_word (Import ∷ Other ∷ []) p
+record_kind_of p = word_among record_kind_word record_kinds p
 
 abbrev pub class_word : ExportClass → List ℕ
 class_word export.Local = codes "local"
 class_word export.Indirect = codes "indirect"
 class_word export.All = codes "all"
 
+abbrev pub export_classes : List ExportClass
+export_classes = export.Local ∷ export.Indirect ∷ export.All ∷ []
+
 abbrev pub class_of : List ℕ → Option ExportClass
-class_of p = word_among class_word (export.Local ∷ export.Indirect ∷ export.All ∷ []) p
+class_of p = word_among class_word export_classes p
 
 -- `open`, `lost`, or the number of the symbol
 abbrev pub resolution_of : List ℕ → Option Resolution
@@ -144,5 +164,8 @@ abbrev pub target_word : TargetKind → List ℕ
 target_word target.Module = codes "module"
 target_word target.Carrier = codes "carrier"
 
+abbrev pub target_kinds : List TargetKind
+target_kinds = target.Module ∷ target.Carrier ∷ []
+
 abbrev pub target_of : List ℕ → Option TargetKind
-target_of p = word_among target_word (target.Module ∷ target.Carrier ∷ []) p
+target_of p = word_among target_word target_kinds p

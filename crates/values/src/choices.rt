@@ -1,13 +1,10 @@
 // Values that are written as one of some words.
 
-ghost use Rattle.std.specs.Prelude.{◌≡◌, ℕ, List, Some, None, MatchResult};
-ghost use Rattle.parts.specs.declared.faults.LineFault.{LineFault};
+ghost use Rattle.std.specs.Prelude.{◌≡◌, ℕ, List, Some};
 ghost use Rattle.values.specs.Values.{word_among};
 
-use crate::matches::is;
-use parts::LineFault;
-
 // A value that is written as a word.
+// The library's `AsStr` would be no plainer: it says the same, but `bool` is not ours to give it to.
 pub trait Spelled {
     ghost spelling: { Self → List ℕ };
 
@@ -15,24 +12,23 @@ pub trait Spelled {
         ensures { result.now ≡ spelling self.now };
 }
 
+// A value that is one of some, each of which has a word of its own.
+pub trait Choice: Spelled + Copy + 'static {
+    ghost all: { List Self };
+
+    // Every value, in the order in which a word is looked for.
+    fn all() -> &'static [Self]
+        ensures { result.now ≡ all };
+
+    // The word of a value is read as that value.
+    ghost read_back: { (v : Self) → word_among Self.spelling all (Self.spelling v) ≡ Some v };
+}
+
 // The first of some values whose word this is.
 pub fn find_word<T: Spelled + Copy>(all: &[T], part: &[u8]) -> Option<T>
     ensures { result ≡ word_among T.spelling all.now part.now }
 {
-    for value in all {
-        if is(part, value.spelled().as_bytes()) {
-            return Some(*value);
-        }
-    }
-    None
-}
-
-// The value that a field writes; one that is none of them refuses the line.
-pub fn choice<T: Spelled + Copy>(all: &[T], part: &[u8], field: u8) -> Result<T, LineFault>
-    ensures { MatchResult result (λ v. word_among T.spelling all.now part.now ≡ Some v) (λ e. (e ≡ LineFault.Value field) × (word_among T.spelling all.now part.now ≡ None)) }
-{
-    match find_word(all, part) {
-        Some(value) => Ok(value),
-        None => Err(LineFault::Value { field }),
-    }
+    all.iter()
+        .copied()
+        .find(|value| part == value.spelled().as_bytes())
 }

@@ -3,15 +3,14 @@
 #![tactic(auto)]
 
 mod choices;
-mod matches;
+mod fields;
 mod scalars;
 mod values;
 
-pub use choices::{Spelled, choice, find_word};
-pub use matches::is;
-pub use scalars::{Scalar, imported_name, number, optional};
+pub use choices::{Choice, Spelled, find_word};
+pub use fields::{FromPart, value};
+pub use scalars::Scalar;
 pub use values::{
     ExportClass, ExportsKind, Imported, InlineConstMode, ModuleKind, RecordKind, Resolution,
-    TargetKind, WrapKind, export_class, exports_kind, flag, inline_mode, module_kind, record_kind,
-    resolved, target_kind, wrap_kind,
+    TargetKind, WrapKind,
 };

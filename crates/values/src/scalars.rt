@@ -1,14 +1,13 @@
 // What stands where a number can stand, read from the bytes of a field.
 
-ghost use Rattle.std.specs.Prelude.{◌≡◌, Some, None, MatchResult};
-ghost use Rattle.parts.specs.declared.faults.LineFault.{LineFault};
+ghost use Rattle.std.specs.Prelude.{◌≡◌};
 ghost use Rattle.values.specs.Values.{digits_of, number_of, scalar_of, optional_of, imported_of};
 
+use crate::fields::FromPart;
 use crate::values::Imported;
-use parts::LineFault;
 
 // What stands in the place of a number.
-#[derive(Clone, Copy)]
+#[derive(Debug, Clone, Copy, PartialEq, Eq)]
 pub enum Scalar {
     Missing,
     Namespace,
@@ -19,80 +18,69 @@ pub enum Scalar {
 fn digits(part: &[u8]) -> Option<u16>
     ensures { result ≡ digits_of part.now }
 {
-    if part.len() == 0 {
+    if part.is_empty() {
         return None;
     }
     if part[0] == b'0' && part.len() > 1 {
         return None;
     }
-    let mut n: u32 = 0;
+    let mut n: u16 = 0;
     for d in part {
-        if *d < b'0' || *d > b'9' {
+        if !d.is_ascii_digit() {
             return None;
         }
-        n = n * 10 + u32::from(*d - b'0');
-        if n > 65535 {
-            return None;
+        n = n.checked_mul(10)?.checked_add(u16::from(*d - b'0'))?;
+    }
+    Some(n)
+}
+
+impl FromPart for Scalar {
+    ghost written = { scalar_of };
+
+    fn from_part(part: &[u8]) -> Option<Scalar> {
+        match part {
+            [b'-'] => Some(Scalar::Missing),
+            [b'*'] => Some(Scalar::Namespace),
+            [b'0'..=b'9', ..] => digits(part).map(Scalar::Number),
+            _ => None,
         }
     }
-    Some(n as u16)
 }
 
-// A field where a number can stand, by its first byte.
-fn read_scalar(part: &[u8]) -> Option<Scalar>
-    ensures { result ≡ scalar_of part.now }
-{
-    if part.len() == 0 {
-        return None;
-    }
-    match part[0] {
-        b'-' => {
-            if part.len() == 1 {
-                Some(Scalar::Missing)
-            } else {
-                None
-            }
+// A number alone.
+impl FromPart for u16 {
+    ghost written = { number_of };
+
+    fn from_part(part: &[u8]) -> Option<u16> {
+        match Scalar::from_part(part)? {
+            Scalar::Number(n) => Some(n),
+            Scalar::Missing | Scalar::Namespace => None,
         }
-        b'*' => {
-            if part.len() == 1 {
-                Some(Scalar::Namespace)
-            } else {
-                None
-            }
+    }
+}
+
+// A number, or `-` for none.
+impl FromPart for Option<u16> {
+    ghost written = { optional_of };
+
+    fn from_part(part: &[u8]) -> Option<Option<u16>> {
+        match Scalar::from_part(part)? {
+            Scalar::Missing => Some(None),
+            Scalar::Number(n) => Some(Some(n)),
+            Scalar::Namespace => None,
         }
-        b'0'..=b'9' => match digits(part) {
-            Some(n) => Some(Scalar::Number(n)),
-            None => None,
-        },
-        _ => None,
     }
 }
 
-pub fn number(part: &[u8], field: u8) -> Result<u16, LineFault>
-    ensures { MatchResult result (λ v. number_of part.now ≡ Some v) (λ e. (e ≡ LineFault.Value field) × (number_of part.now ≡ None)) }
-{
-    match read_scalar(part) {
-        Some(Scalar::Number(n)) => Ok(n),
-        _ => Err(LineFault::Value { field }),
-    }
-}
+// The number of a name, or `*` for the whole namespace.
+impl FromPart for Imported {
+    ghost written = { imported_of };
 
-pub fn optional(part: &[u8], field: u8) -> Result<Option<u16>, LineFault>
-    ensures { MatchResult result (λ v. optional_of part.now ≡ Some v) (λ e. (e ≡ LineFault.Value field) × (optional_of part.now ≡ None)) }
-{
-    match read_scalar(part) {
-        Some(Scalar::Missing) => Ok(None),
-        Some(Scalar::Number(n)) => Ok(Some(n)),
-        _ => Err(LineFault::Value { field }),
-    }
-}
-
-pub fn imported_name(part: &[u8], field: u8) -> Result<Imported, LineFault>
-    ensures { MatchResult result (λ v. imported_of part.now ≡ Some v) (λ e. (e ≡ LineFault.Value field) × (imported_of part.now ≡ None)) }
-{
-    match read_scalar(part) {
-        Some(Scalar::Namespace) => Ok(Imported::Namespace),
-        Some(Scalar::Number(n)) => Ok(Imported::Literal(n)),
-        _ => Err(LineFault::Value { field }),
+    fn from_part(part: &[u8]) -> Option<Imported> {
+        match Scalar::from_part(part)? {
+            Scalar::Namespace => Some(Imported::Namespace),
+            Scalar::Number(n) => Some(Imported::Literal(n)),
+            Scalar::Missing => None,
+        }
     }
 }

@@ -1,50 +1,47 @@
 // The values that a field can be, beside numbers, and their words.
 
-ghost use Rattle.std.specs.Prelude.{◌≡◌, List, [], ◌∷◌, Some, None, codes, MatchResult};
-ghost use Rattle.parts.specs.declared.faults.LineFault.{LineFault};
-ghost use Rattle.values.specs.Values.{resolution_of, flag_word, inline_word, module_kind_word, exports_word, wrap_word, record_kind_word, class_word, target_word, flag_of, inline_of, module_kind_of, exports_of, wrap_of, record_kind_of, class_of, target_of};
+ghost use Rattle.std.proofs.Common.{rules};
+ghost use Rattle.values.specs.Values.{resolution_of, flag_word, inline_word, module_kind_word, exports_word, wrap_word, record_kind_word, class_word, target_word, flags, inline_modes, module_kinds, exports_kinds, wrap_kinds, record_kinds, export_classes, target_kinds};
 
-use crate::choices::{Spelled, choice};
-use crate::matches::is;
-use crate::scalars::number;
-use parts::LineFault;
+use crate::choices::{Choice, Spelled};
+use crate::fields::FromPart;
 
 // Which constants are written in the place of their symbols.
-#[derive(Clone, Copy)]
+#[derive(Debug, Clone, Copy, PartialEq, Eq)]
 pub enum InlineConstMode {
     Off,
     Smart,
     All,
 }
 
-#[derive(Clone, Copy)]
+#[derive(Debug, Clone, Copy, PartialEq, Eq)]
 pub enum ModuleKind {
     Normal,
     External,
 }
 
-#[derive(Clone, Copy)]
+#[derive(Debug, Clone, Copy, PartialEq, Eq)]
 pub enum ExportsKind {
     None,
     Esm,
     CommonJs,
 }
 
-#[derive(Clone, Copy)]
+#[derive(Debug, Clone, Copy, PartialEq, Eq)]
 pub enum WrapKind {
     None,
     Cjs,
     Esm,
 }
 
-#[derive(Clone, Copy)]
+#[derive(Debug, Clone, Copy, PartialEq, Eq)]
 pub enum RecordKind {
     Import,
     Other,
 }
 
 // A local export entry, an indirect one, or `export * as`.
-#[derive(Clone, Copy)]
+#[derive(Debug, Clone, Copy, PartialEq, Eq)]
 pub enum ExportClass {
     Local,
     Indirect,
@@ -52,14 +49,14 @@ pub enum ExportClass {
 }
 
 // Whether an init call is made to a module or to a carrier.
-#[derive(Clone, Copy)]
+#[derive(Debug, Clone, Copy, PartialEq, Eq)]
 pub enum TargetKind {
     Module,
     Carrier,
 }
 
 // What a member expression resolved to: not resolved, resolved to nothing, or to a symbol.
-#[derive(Clone, Copy)]
+#[derive(Debug, Clone, Copy, PartialEq, Eq)]
 pub enum Resolution {
     Open,
     Lost,
@@ -67,7 +64,8 @@ pub enum Resolution {
 }
 
 // What an import asks for: the whole namespace, or one name.
-#[derive(Clone, Copy)]
+// An option of a name would be no plainer: its `None` reads as an import of nothing, and this is one of everything.
+#[derive(Debug, Clone, Copy, PartialEq, Eq)]
 pub enum Imported {
     Namespace,
     Literal(u16),
@@ -78,6 +76,16 @@ impl Spelled for bool {
 
     fn spelled(&self) -> &'static str {
         if *self { "1" } else { "0" }
+    }
+}
+
+impl Choice for bool {
+    ghost all = { flags };
+
+    ghost read_back = { Prim.search rules };
+
+    fn all() -> &'static [bool] {
+        &[false, true]
     }
 }
 
@@ -93,6 +101,20 @@ impl Spelled for InlineConstMode {
     }
 }
 
+impl Choice for InlineConstMode {
+    ghost all = { inline_modes };
+
+    ghost read_back = { Prim.search rules };
+
+    fn all() -> &'static [InlineConstMode] {
+        &[
+            InlineConstMode::Off,
+            InlineConstMode::Smart,
+            InlineConstMode::All,
+        ]
+    }
+}
+
 impl Spelled for ModuleKind {
     ghost spelling = { module_kind_word };
 
@@ -101,6 +123,16 @@ impl Spelled for ModuleKind {
             ModuleKind::Normal => "normal",
             ModuleKind::External => "external",
         }
+    }
+}
+
+impl Choice for ModuleKind {
+    ghost all = { module_kinds };
+
+    ghost read_back = { Prim.search rules };
+
+    fn all() -> &'static [ModuleKind] {
+        &[ModuleKind::Normal, ModuleKind::External]
     }
 }
 
@@ -116,6 +148,16 @@ impl Spelled for ExportsKind {
     }
 }
 
+impl Choice for ExportsKind {
+    ghost all = { exports_kinds };
+
+    ghost read_back = { Prim.search rules };
+
+    fn all() -> &'static [ExportsKind] {
+        &[ExportsKind::None, ExportsKind::Esm, ExportsKind::CommonJs]
+    }
+}
+
 impl Spelled for WrapKind {
     ghost spelling = { wrap_word };
 
@@ -128,6 +170,16 @@ impl Spelled for WrapKind {
     }
 }
 
+impl Choice for WrapKind {
+    ghost all = { wrap_kinds };
+
+    ghost read_back = { Prim.search rules };
+
+    fn all() -> &'static [WrapKind] {
+        &[WrapKind::None, WrapKind::Cjs, WrapKind::Esm]
+    }
+}
+
 impl Spelled for RecordKind {
     ghost spelling = { record_kind_word };
 
@@ -136,6 +188,16 @@ impl Spelled for RecordKind {
             RecordKind::Import => "import",
             RecordKind::Other => "other",
         }
+    }
+}
+
+impl Choice for RecordKind {
+    ghost all = { record_kinds };
+
+    ghost read_back = { Prim.search rules };
+
+    fn all() -> &'static [RecordKind] {
+        &[RecordKind::Import, RecordKind::Other]
     }
 }
 
@@ -151,6 +213,16 @@ impl Spelled for ExportClass {
     }
 }
 
+impl Choice for ExportClass {
+    ghost all = { export_classes };
+
+    ghost read_back = { Prim.search rules };
+
+    fn all() -> &'static [ExportClass] {
+        &[ExportClass::Local, ExportClass::Indirect, ExportClass::All]
+    }
+}
+
 impl Spelled for TargetKind {
     ghost spelling = { target_word };
 
@@ -162,79 +234,25 @@ impl Spelled for TargetKind {
     }
 }
 
-pub fn flag(part: &[u8], field: u8) -> Result<bool, LineFault>
-    ensures { MatchResult result (λ v. flag_of part.now ≡ Some v) (λ e. (e ≡ LineFault.Value field) × (flag_of part.now ≡ None)) }
-{
-    choice(&[false, true], part, field)
-}
+impl Choice for TargetKind {
+    ghost all = { target_kinds };
 
-pub fn inline_mode(part: &[u8], field: u8) -> Result<InlineConstMode, LineFault>
-    ensures { MatchResult result (λ v. inline_of part.now ≡ Some v) (λ e. (e ≡ LineFault.Value field) × (inline_of part.now ≡ None)) }
-{
-    choice(
-        &[
-            InlineConstMode::Off,
-            InlineConstMode::Smart,
-            InlineConstMode::All,
-        ],
-        part,
-        field,
-    )
-}
+    ghost read_back = { Prim.search rules };
 
-pub fn module_kind(part: &[u8], field: u8) -> Result<ModuleKind, LineFault>
-    ensures { MatchResult result (λ v. module_kind_of part.now ≡ Some v) (λ e. (e ≡ LineFault.Value field) × (module_kind_of part.now ≡ None)) }
-{
-    choice(&[ModuleKind::Normal, ModuleKind::External], part, field)
-}
-
-pub fn exports_kind(part: &[u8], field: u8) -> Result<ExportsKind, LineFault>
-    ensures { MatchResult result (λ v. exports_of part.now ≡ Some v) (λ e. (e ≡ LineFault.Value field) × (exports_of part.now ≡ None)) }
-{
-    choice(
-        &[ExportsKind::None, ExportsKind::Esm, ExportsKind::CommonJs],
-        part,
-        field,
-    )
-}
-
-pub fn wrap_kind(part: &[u8], field: u8) -> Result<WrapKind, LineFault>
-    ensures { MatchResult result (λ v. wrap_of part.now ≡ Some v) (λ e. (e ≡ LineFault.Value field) × (wrap_of part.now ≡ None)) }
-{
-    choice(&[WrapKind::None, WrapKind::Cjs, WrapKind::Esm], part, field)
-}
-
-pub fn record_kind(part: &[u8], field: u8) -> Result<RecordKind, LineFault>
-    ensures { MatchResult result (λ v. record_kind_of part.now ≡ Some v) (λ e. (e ≡ LineFault.Value field) × (record_kind_of part.now ≡ None)) }
-{
-    choice(&[RecordKind::Import, RecordKind::Other], part, field)
-}
-
-pub fn export_class(part: &[u8], field: u8) -> Result<ExportClass, LineFault>
-    ensures { MatchResult result (λ v. class_of part.now ≡ Some v) (λ e. (e ≡ LineFault.Value field) × (class_of part.now ≡ None)) }
-{
-    choice(
-        &[ExportClass::Local, ExportClass::Indirect, ExportClass::All],
-        part,
-        field,
-    )
-}
-
-pub fn target_kind(part: &[u8], field: u8) -> Result<TargetKind, LineFault>
-    ensures { MatchResult result (λ v. target_of part.now ≡ Some v) (λ e. (e ≡ LineFault.Value field) × (target_of part.now ≡ None)) }
-{
-    choice(&[TargetKind::Module, TargetKind::Carrier], part, field)
-}
-
-pub fn resolved(part: &[u8], field: u8) -> Result<Resolution, LineFault>
-    ensures { MatchResult result (λ v. resolution_of part.now ≡ Some v) (λ e. (e ≡ LineFault.Value field) × (resolution_of part.now ≡ None)) }
-{
-    if is(part, b"open") {
-        return Ok(Resolution::Open);
+    fn all() -> &'static [TargetKind] {
+        &[TargetKind::Module, TargetKind::Carrier]
     }
-    if is(part, b"lost") {
-        return Ok(Resolution::Lost);
+}
+
+// `open`, `lost`, or the number of a symbol.
+impl FromPart for Resolution {
+    ghost written = { resolution_of };
+
+    fn from_part(part: &[u8]) -> Option<Resolution> {
+        match part {
+            b"open" => Some(Resolution::Open),
+            b"lost" => Some(Resolution::Lost),
+            _ => u16::from_part(part).map(Resolution::To),
+        }
     }
-    let symbol = number(part, field)?;
-    Ok(Resolution::To(symbol))
 }

@@ -1,6 +1,6 @@
 use Rattle.std.proofs.Common.{vec_items, sym, refl, ◌∙◌}
 use Rattle.tables.specs.Room.{rows_of}
-use Rattle.tables.proofs.Flags.{row_modules}
+use Rattle.tables.proofs.Packing.{row_modules}
 use Rattle.tables.proofs.draft.Draft.slices.Goals as goal
 
 pub returns : goal.returns
@@ -11,7 +11,7 @@ returns c =
       modules = c.rows.ensures;
       symbols = c.rows-2.ensures;
       records = c.rows-3.ensures;
-      statements = c.rows-4.ensures ∙ sym (row_modules (rows_of s.statements.modules) (vec_items s.statements.included));
+      statements = c.rows-4.ensures ∙ sym (row_modules (rows_of s.statements.modules) (vec_items s.statements.included.words));
       uses = c.rows-5.ensures;
       references = c.as_slice.ensures.value;
       imports = c.rows-6.ensures;

@@ -1,29 +1,27 @@
-use Rattle.std.proofs.Common.{◌≡◌, map, length, vec_items, sym, refl, ap, ◌∙◌}
-use Rattle.std.specs.List.{range_with_len}
+use Rattle.std.proofs.Common.{◌≡◌, rules, arith, vec_items, ap, ◌∙◌}
 use Rattle.std.proofs.lemmas.List.FromFn.{length-map-range_with_len}
-use Rattle.tables.specs.Flags.{flag_at, statement_at, statements_of}
-use Rattle.tables.specs.Room.{rows_of}
-use Rattle.tables.proofs.Flags.{rows_push}
-use Rattle.tables.proofs.Rooms.{full, more, accepted}
+use Rattle.std.proofs.lemmas.Grind.{common_steps}
+use Rattle.tables.specs.contracts.statements.Statements.{the_row}
+use Rattle.tables.specs.Flags.{statements_of}
+use Rattle.tables.specs.Room.{rows_of, limit_of, below, fits}
+use Rattle.tables.proofs.Packing.{rows_push}
 use Rattle.tables.proofs.statements.Statements.push.Goals as goal
 
-pub returns-then-n-self : goal.returns-then-n-self
-returns-then-n-self c =
+pub returns-in_err-push : goal.returns-in_err-push
+returns-in_err-push c =
     let s = c.args.self.now in
-    let long : length (statements_of s) ≡ c.len-n.result = length-map-range_with_len _ 0 _ ∙ sym (c.len-n.ensures ∙ s.modules.rows.ok.0) in
-    record { value = full (statements_of s) s.modules.limit c.len-n.result long c.if-n-self.true; after = refl; limit = refl; refused = λ _. refl }
+    let alike : fits (statements_of s) (limit_of s.modules) ≡ fits (rows_of s.modules) (limit_of s.modules) = ap (λ n. below n (limit_of s.modules)) (length-map-range_with_len _ 0 _) in
+    record { value = search rules; after = search rules; limits = search rules; refused = grind (arith, common_steps, the_row.coded.inj, c.push.ensures.refused, c.in_err-push.was) }
 
 pub returns : goal.returns
 returns c =
     let s = c.args.self.now in
     let ms = rows_of s.modules in
-    let ws = vec_items c.push_flag.new.words in
-    let n : length ms ≡ c.len-n.result = sym (c.len-n.ensures ∙ s.modules.rows.ok.0) in
-    let long : length (statements_of s) ≡ c.len-n.result = length-map-range_with_len _ 0 _ ∙ n in
+    let alike : fits (statements_of s) (limit_of s.modules) ≡ fits ms (limit_of s.modules) = ap (λ n. below n (limit_of s.modules)) (length-map-range_with_len _ 0 _) in
     record {
-      value = more (statements_of s) s.modules.limit c.len-n.result long c.if-n-self.false;
-      after = ap (λ l. map (statement_at l ws) (range_with_len 0 (length l))) c.push_reserved.ensures.items
-          ∙ rows_push ms (vec_items s.included) ws c.args.row (ap (λ j. flag_at ws j) n ∙ c.push_flag.ensures.here) (λ k ne. c.push_flag.ensures.others k (λ e. ne (e ∙ sym n)));
-      limit = refl;
-      refused = accepted;
+      value = search rules;
+      after = rows_push ms (rows_of c.push.new.self) (vec_items s.included.words) (vec_items c.push-2.new.self.words) c.args.row s.included.len c.push-2.new.self.len
+          (s.one_length ∙ s.modules.rows.ok.0) c.push-2.ensures.len (search rules) c.push-2.ensures.flags;
+      limits = search rules;
+      refused = search rules;
     }
