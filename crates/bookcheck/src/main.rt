@@ -18,7 +18,7 @@ fn check(rt: &HostRuntime, input: &mut impl Read) -> anyhow::Result<()> {
     let mut book = Book::new(heap)?;
     let mut piece = vec![in heap; 0u8; PIECE]?;
     for _ in 0..u64::MAX {
-        // Not a context, after which a long message would be cut at another place.
+        // As `try_map_err` it was tried: the proof that the piece has n bytes did not close. As a context, a long message would be cut at another place.
         let n = match input.read(&mut piece) {
             Ok(n) => n,
             Err(e) => return Err(anyhow!(format!(in heap; "cannot read the book: {e}")?)),
@@ -34,7 +34,7 @@ fn check(rt: &HostRuntime, input: &mut impl Read) -> anyhow::Result<()> {
 
 fn check_file(rt: &HostRuntime, path: &str) -> anyhow::Result<()> {
     let heap = rt.alloc();
-    // Not a context, as above.
+    // `try_map_err` would be no plainer: four calls, one in the other, in place of two arms.
     match fs::open(rt, path) {
         Ok(mut file) => check(rt, &mut file),
         Err(e) => Err(anyhow!(format!(in heap; "cannot open {path}: {e}")?)),

@@ -18,7 +18,7 @@ impl fmt::Display for RowName {
 }
 
 // What is printed of a refusal: the number of the line, from 1, and what the refusal tells.
-// It stands beside the one of `parts` for the reason given at `Told`.
+// One type with what it tells as a parameter would be no plainer: only `parts` could give it a `Display`, and by one trait more.
 #[derive(Debug, Clone, Copy, PartialEq, Eq)]
 pub struct FaultLine {
     pub line: u64,

@@ -4,13 +4,15 @@ ghost use Rattle.std.specs.Prelude.{◌≡◌, true, false, MatchResult};
 ghost use Rattle.std.specs.Str.{bytes_eq};
 ghost use Rattle.parts.specs.declared.faults.LineFault.{LineFault};
 ghost use Rattle.line.specs.Lines.{target_as};
+ghost use Rattle.line.specs.Shape.{question_word};
 ghost use Rattle.line.specs.Shown.{mark_shown, host_shown, ask_shown};
 
+use crate::kinds::AskKind;
 use crate::lines::{AskLine, HostLine, MarkLine};
 use crate::rows::{AskRow, HostRow, MarkRow, Row, Target};
 use crate::written::Written;
 use parts::LineFault;
-use values::{TargetKind, value};
+use values::{Spelled, TargetKind, value};
 
 impl Written for MarkLine<'_> {
     ghost shown = { mark_shown };
@@ -57,16 +59,17 @@ impl Written for HostLine<'_> {
     }
 }
 
-// The field that names the question has to be this word.
-fn named(question: &[u8], word: &[u8]) -> Result<(), LineFault>
-    ensures { MatchResult result (λ _. bytes_eq question.now word.now ≡ true) (λ e. (e ≡ LineFault.Value 1) × (bytes_eq question.now word.now ≡ false)) }
+// The field that names the question has to be its word.
+fn named(question: &[u8], kind: AskKind) -> Result<(), LineFault>
+    ensures { MatchResult result (λ _. bytes_eq question.now (question_word kind) ≡ true) (λ e. (e ≡ LineFault.Value 1) × (bytes_eq question.now (question_word kind) ≡ false)) }
 {
-    if question == word {
+    if question == kind.spelled().as_bytes() {
         return Ok(());
     }
     Err(LineFault::Value { field: 1 })
 }
 
+// `From` of a pair would be no plainer.
 fn target(kind: TargetKind, number: u16) -> Target
     ensures { result ≡ target_as kind number }
 {
@@ -82,11 +85,11 @@ impl Written for AskLine<'_> {
     fn row(self) -> Result<Row, LineFault> {
         let row = match self {
             AskLine::Record { question, record } => {
-                named(question, b"record")?;
+                named(question, AskKind::Record)?;
                 AskRow::Record(value(record, 2)?)
             }
             AskLine::Circle { question } => {
-                named(question, b"circle")?;
+                named(question, AskKind::Circle)?;
                 AskRow::Circle
             }
             AskLine::Caller {
@@ -95,7 +98,7 @@ impl Written for AskLine<'_> {
                 target: kind,
                 number,
             } => {
-                named(question, b"caller")?;
+                named(question, AskKind::Caller)?;
                 AskRow::Caller {
                     record: value(record, 2)?,
                     target: target(value(kind, 3)?, value(number, 4)?),

@@ -28,6 +28,7 @@ pub struct ModuleRow {
     pub kind: ModuleKind,
     pub exports: ExportsKind,
     pub wrap: WrapKind,
+    // as it was written, whatever `wrap` is
     pub wrapper: Option<SymbolRef>,
     pub included: bool,
     // concatenated into another module

@@ -8,7 +8,7 @@ use std::marker::Model;
 // The line that is being read, of which at most 128 bytes are kept: one more than a line may have.
 #[derive(Drop)]
 pub struct LineBuffer {
-    // an array, for which `new` needs no memory that it might not get
+    // An array: a Vec would need memory that `new` might not get, and the library's `ArrayVec` is in a crate that nothing here trusts.
     kept: [u8; 128],
     len: usize,
 }

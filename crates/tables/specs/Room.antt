@@ -1,5 +1,5 @@
 -- A table with a limit: what it holds, and whether it takes one row more.
-use Rattle.std.specs.Prelude.{◌≡◌, ℕ, Bool, false, cond, List, [], ◌∷◌, ◌++◌, length, is_ok, Ok, Err, vec_items, Result, nat_lt}
+use Rattle.std.specs.Prelude.{◌≡◌, ℕ, Bool, false, cond, List, [], ◌∷◌, ◌++◌, length, is_ok, Ok, Err, vec_items, vec_capacity, Result, nat_lt}
 use Rattle.std.specs.List.{list_any}
 use Rattle.tables.specs.declared.faults.RowFault.{RowFault}
 use Rattle.tables.specs.declared.faults.RowFault.TheVariants.{Full, Twice}
@@ -9,7 +9,7 @@ abbrev pub rows_of : {T : Type 0} → Table T → List T
 rows_of t = vec_items t.rows
 
 abbrev pub limit_of : {T : Type 0} → Table T → ℕ
-limit_of t = t.limit
+limit_of t = vec_capacity t.rows
 
 -- one more, below the limit
 abbrev pub below : ℕ → ℕ → Result (Unit {0}) RowFault

@@ -10,7 +10,8 @@ use crate::table::Table;
 use std::alloc::{AllocError, Global};
 
 // Rows of which a table has at most one that is the same, by the fields that tell them apart.
-// A key with its own == would be no plainer, since each type of row would need a type and a function for it in place of this one line; and a derived == would compare every field.
+// A key that is compared by its own == would be no plainer: each type of row would have a type for it and a function, in place of this one.
+// A derived == would compare every field.
 pub(crate) trait Distinct {
     ghost same: { Self → Self → Bool };
 
@@ -23,9 +24,8 @@ impl<T> Table<T> {
     pub(crate) fn with_limit(heap: Global, limit: u16) -> Result<Table<T>, AllocError>
         ensures { IfOk result (λ t. (rows_of t ≡ []) × (limit_of t ≡ limit)) }
     {
-        let limit = usize::from(limit);
-        let rows = Vec::with_capacity(heap, limit)?;
-        Ok(Table { rows, limit })
+        let rows = Vec::with_capacity(heap, usize::from(limit))?;
+        Ok(Table { rows })
     }
 
     pub(crate) fn len(&self) -> usize
@@ -43,7 +43,7 @@ impl<T> Table<T> {
     fn room(&self) -> Result<(), RowFault>
         ensures { result ≡ fits (rows_of self.now) (limit_of self.now) }
     {
-        below(self.rows.len(), self.limit)
+        below(self.rows.len(), self.rows.capacity())
     }
 }
 
@@ -62,7 +62,7 @@ impl<T: Copy> Table<T> {
 
 impl<T: Distinct + Copy> Table<T> {
     // Whether one of the rows is the same as this.
-    // No map is used: all memory is reserved when a draft is made, and a load cannot fail for want of memory.
+    // A set of keys would be no plainer: it would hold every key a second time, and have to be kept in step with the rows.
     fn has_same(&self, row: &T) -> bool
         ensures { result ≡ list_any (T.same row.now) (rows_of self.now) }
     {

@@ -13,5 +13,5 @@ pub(crate) struct Statements {
     pub(crate) modules: Table<ModuleIdx>,
     pub(crate) included: Flags,
     ghost one_length: { included.len ≡ vec_len modules.rows },
-    ghost room: { (modules.limit + 31) / 32 ≤ vec_capacity included.words },
+    ghost room: { (vec_capacity modules.rows + 31) / 32 ≤ vec_capacity included.words },
 }

@@ -4,7 +4,7 @@ ghost use Rattle.std.specs.Prelude.{◌≡◌, ℕ, List, Some};
 ghost use Rattle.values.specs.Values.{word_among};
 
 // A value that is written as a word.
-// The library's `AsStr` would be no plainer: it says the same, but `bool` is not ours to give it to.
+// The library's `AsStr` would be no plainer: it lends its text for as long as the value lives, and `bool` is not ours to give it to.
 pub trait Spelled {
     ghost spelling: { Self → List ℕ };
 
