@@ -1,5 +1,5 @@
 -- The items of one group, among those of all.
-use Rattle.std.proofs.Common.{◌≡◌, ℕ, zero, suc, ◌+◌, ◌-◌, ◌<◌, ◌≤◌, cond, ◌&&◌, leb, List, [], ◌∷◌, ◌++◌, map, length, get_or, take, drop, vec_items, sym, refl, ap, ◌∙◌, append_assoc, append-nil, arith}
+use Rattle.std.proofs.Common.{◌≡◌, ℕ, zero, suc, ◌+◌, ◌-◌, ◌<◌, ◌&&◌, leb, List, [], ◌∷◌, ◌++◌, map, length, get_or, take, drop, vec_items, sym, refl, ap, ◌∙◌, append_assoc, append-nil, arith}
 use Rattle.std.specs.List.{range_with_len, flat_map}
 use Rattle.std.proofs.lemmas.List.FromFn.{get_or-map-range_with_len, length-map-range_with_len, map-range_with_len_more}
 use Rattle.std.proofs.lemmas.List.{length-append, drop_at, take_at}
@@ -34,8 +34,8 @@ grown f n g h holds items starts =
     record {
       items = all;
       starts = starts ∙ ap (λ l. l ++ length (vec_items h.items) ∷ []) holds.starts
-        ∙ ap (λ k. map (items_before f) (range_with_len 0 (n + 1)) ++ k ∷ []) (ap length all)
-        ∙ sym (map-range_with_len_more (items_before f) 0 (n + 1) (n + 1) (omega arith));
+          ∙ ap (λ k. map (items_before f) (range_with_len 0 (n + 1)) ++ k ∷ []) (ap length all)
+          ∙ sym (map-range_with_len_more (items_before f) 0 (n + 1) (n + 1) (omega arith));
     }
 
 -- a part between two lists

@@ -1,6 +1,6 @@
 // The numbers of rows, grouped by their owners.
 
-ghost use Rattle.std.specs.Prelude.{◌≡◌, ℕ, ◌+◌, ◌<◌, ◌≤◌, true, false, List, [], ◌∷◌, ◌++◌, length, is_ok, vec_len, vec_capacity};
+ghost use Rattle.std.specs.Prelude.{◌≡◌, ℕ, ◌+◌, ◌<◌, ◌≤◌, true, false, [], ◌∷◌, ◌++◌, length, is_ok, vec_len, vec_capacity};
 ghost use Rattle.groups.specs.Groups.{group, Holds};
 ghost use Rattle.groups.specs.Owned.{numbers_of, enough};
 
@@ -40,8 +40,8 @@ impl Groups<u16> {
         ensures starts { self.new.starts.items ≡ self.old.starts.items ++ vec_len self.new.items ∷ [] }
         ensures room { (vec_capacity self.new.items ≡ vec_capacity self.old.items) × (vec_capacity self.new.starts ≡ vec_capacity self.old.starts) }
     {
-        for k in 0..rows.len() {
-            if rows[k].owner() == owner {
+        for (k, row) in rows.iter().enumerate() {
+            if row.owner() == owner {
                 self.items.push_reserved(k as u16);
             }
         }

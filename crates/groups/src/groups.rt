@@ -1,7 +1,5 @@
 // Groups of items that stand one after the other.
 
-ghost use Rattle.std.specs.Prelude.{◌<◌, vec_len};
-
 // Where each group begins, and after the last one where it ends.
 #[derive(Drop)]
 pub struct Groups<T> {

@@ -1,4 +1,4 @@
-use Rattle.std.proofs.Common.{◌≡◌, ◌++◌, drop, vec_len, vec_capacity, vec_items}
+use Rattle.std.proofs.Common.{◌≡◌, ◌++◌, drop, vec_capacity, vec_items}
 use Rattle.groups.specs.Owned.{numbers_from, numbers_of}
 use Rattle.groups.proofs.fills.Groups+u16.add.Given as goal
 

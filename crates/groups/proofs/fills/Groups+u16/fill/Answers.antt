@@ -33,8 +33,7 @@ add-requires-clause-starts g c =
 pub loop-owner-preserved : goal.loop-owner-preserved
 loop-owner-preserved g c =
     let f = numbers_of g.T.Owned.owner c.args.rows.now in
-    let long : vec_len c.add.new.self.items ≡ length (vec_items c.add.new.self.items) = omega (arith, c.add.new.self.items.ok.0) in
-    (
+    let long : vec_len c.add.new.self.items ≡ length (vec_items c.add.new.self.items) = omega (arith, c.add.new.self.items.ok.0) in (
       grown f c.loop-owner.owner c.loop-owner.self c.add.new.self c.loop-owner.invariant.0 c.add.ensures.items (c.add.ensures.starts ∙ ap (λ n. vec_items c.loop-owner.self.starts ++ n ∷ []) long),
       c.add.ensures.room.0 ∙ c.loop-owner.invariant.1,
       c.add.ensures.room.1 ∙ c.loop-owner.invariant.2,
