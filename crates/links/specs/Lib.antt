@@ -1,0 +1,4 @@
+pub mod Among
+pub mod Bad
+pub mod Fields
+pub mod Rows
