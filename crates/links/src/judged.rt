@@ -134,14 +134,12 @@ impl Judged for MemberRow {
 
     fn bad_field(&self, draft: &Draft) -> Option<u8> {
         let seen = draft.slices();
+        let unresolved = matches!(self.resolution, Resolution::To(s) if missing(seen.symbols, s));
         first_field(&[
             (1, missing(seen.statements, self.statement)),
             (2, missing(seen.symbols, self.object)),
             (3, self.property.is_some_and(|name| name >= seen.names)),
-            (
-                4,
-                matches!(self.resolution, Resolution::To(s) if missing(seen.symbols, s)),
-            ),
+            (4, unresolved),
         ])
     }
 }
@@ -155,15 +153,13 @@ impl Judged for ImportRow {
 
     fn bad_field(&self, draft: &Draft) -> Option<u8> {
         let seen = draft.slices();
+        let too_high = matches!(self.name, Imported::Literal(name) if name >= seen.names);
         first_field(&[
             (1, missing(seen.modules, self.module)),
             (2, missing(seen.symbols, self.local)),
             (3, missing(seen.symbols, self.imported_as)),
             (4, foreign(seen.records, self.record, self.module)),
-            (
-                5,
-                matches!(self.name, Imported::Literal(name) if name >= seen.names),
-            ),
+            (5, too_high),
         ])
     }
 }
