@@ -1,6 +1,6 @@
--- Where no row has a bad field, the graph is sound.
+-- No row has a bad field exactly where the graph is sound.
 use Rattle.std.proofs.Common.{◌≡◌, ℕ, zero, suc, ◌+◌, ◌<◌, Bool, true, false, ◌&&◌, List, [], ◌∷◌, length, refl, sym, ap, ◌∙◌, true≢false, arith, get_or}
-use Rattle.std.specs.Prelude.{Some, None, Option, All, IfSome, IsSomeAnd, IsTrue, ⊤, cond, find, is_some, slice_get, slice_index_or}
+use Rattle.std.specs.Prelude.{◌↔◌, Some, None, Option, All, IfSome, IsSomeAnd, IsTrue, ⊤, cond, find, is_some, slice_get, slice_index_or}
 use Rattle.std.specs.List.{enumerate_from}
 use Rattle.std.specs.Option.{option_or, option_map}
 use Rattle.faults.specs.declared.told.BadRow.{BadRow}
@@ -25,170 +25,164 @@ use Rattle.line.specs.declared.kinds.LoadKind.TheVariants.{Module, Symbol, Recor
 use Rattle.links.specs.Bad.{find_map, bad_at, first_bad, bad_row}
 use Rattle.links.specs.Fields.{missing, too_high, given, required, of_other, foreign, first_field}
 use Rattle.links.specs.Rows.{bad_module, bad_symbol, bad_record, bad_statement, bad_uses, bad_reads, bad_member, bad_import, bad_export, bad_constant, unresolved, imports_too_high, reads_record, reads_imported}
-use Rattle.links.specs.Sound.{IsSymbol, IsRecordOf, SoundModule, SoundSymbol, SoundRecord, SoundStatement, SoundUses, SoundReads, SoundMember, SoundImport, SoundExport, SoundConstant, Sound}
+use Rattle.links.specs.Sound.{IsModule, IsSymbol, IsRecordOf, SoundModule, SoundSymbol, SoundRecord, SoundStatement, SoundUses, SoundReads, SoundMember, SoundImport, SoundExport, SoundConstant, Sound}
 
--- a row without a bad field: its first field is good, and none of the others is bad
-peel : (n : ℕ) (b : Bool) (rest : Option (ℕ × Bool)) → option_map (λ (f : ℕ × Bool). f.0) (cond b (Some (n, b)) rest) ≡ None → (b ≡ false) × (option_map (λ (f : ℕ × Bool). f.0) rest ≡ None)
-peel n true rest e = absurd (true≢false (ap is_some e))
-peel n false rest e = (refl, e)
+abbrev Good : Bool → Type 0 → Type 0
+Good bad P = (bad ≡ false) ↔ P
 
-is_there : {T : Type 0} (rows : List T) (i : ℕ) → missing rows i ≡ false → i < length rows
-is_there rows i e = grind arith
+-- whether there is none, where it is read as something else
+to : {A P Q : Type 0} → A ↔ P → (P → Q) → (Q → P) → A ↔ Q
+to e forth back = ((λ a. forth (e.0 a)), λ q. e.1 (back q))
 
-is_low : (names n : ℕ) → too_high names n ≡ false → n < names
-is_low names n e = grind arith
+there : {T : Type 0} (rows : List T) (i : ℕ) → Good (missing rows i) (i < length rows)
+there rows i = ((λ e. grind arith), λ l. grind arith)
 
-given_good : (bad : ℕ → Bool) (P : ℕ → Type 0) → ((n : ℕ) → bad n ≡ false → P n) → (o : Option ℕ) → given bad o ≡ false → IfSome o P
-given_good bad P good None e = tt
-given_good bad P good (Some n) e = good n e
+low : (names n : ℕ) → Good (too_high names n) (n < names)
+low names n = ((λ e. grind arith), λ l. grind arith)
 
-required_good : (bad : ℕ → Bool) (P : ℕ → Type 0) → ((n : ℕ) → bad n ≡ false → P n) → (o : Option ℕ) → required bad o ≡ false → IsSomeAnd o P
-required_good bad P good None e = absurd (true≢false e)
-required_good bad P good (Some n) e = good n e
+given_is : (bad : ℕ → Bool) (P : ℕ → Type 0) → ((n : ℕ) → Good (bad n) (P n)) → (o : Option ℕ) → Good (given bad o) (IfSome o P)
+given_is bad P good None = ((λ e. tt), λ t. refl)
+given_is bad P good (Some n) = good n
 
-own_record : (records : List RecordRow) (r m : ℕ) (d : RecordRow) → foreign records r m ≡ false → (r < length records) × ((slice_index_or records r d).«module» ≡ m)
-own_record [] r m d e = absurd (true≢false e)
-own_record (x ∷ xs) zero m d e = (omega arith, grind arith)
-own_record (x ∷ xs) (suc r) m d e = let rest = own_record xs r m d e in (omega (arith, rest.0), rest.1)
+required_is : (bad : ℕ → Bool) (P : ℕ → Type 0) → ((n : ℕ) → Good (bad n) (P n)) → (o : Option ℕ) → Good (required bad o) (IsSomeAnd o P)
+required_is bad P good None = ((λ e. absurd (true≢false e)), λ t. absurd t)
+required_is bad P good (Some n) = good n
 
-read_good : (reads bad : Bool) → (reads && bad) ≡ false → IsTrue reads → bad ≡ false
-read_good true bad e t = e
-read_good false bad e t = absurd (true≢false (sym t))
+of_module : (records : List RecordRow) (r m : ℕ) (d : RecordRow) → Good (foreign records r m) ((r < length records) × ((slice_index_or records r d).«module» ≡ m))
+of_module [] r m d = ((λ e. absurd (true≢false e)), λ p. absurd (omega (arith, p.0)))
+of_module (x ∷ xs) zero m d = ((λ e. (omega arith, grind arith)), λ p. grind (arith, p.1))
+of_module (x ∷ xs) (suc r) m d = to (of_module xs r m d) (λ p. (omega (arith, p.0), p.1)) (λ p. (omega (arith, p.0), p.1))
 
--- only a resolution to a symbol names one
-resolved : (g : Graph) (o : Resolution) → unresolved g o ≡ false → (s : ℕ) → o ≡ To s → IsSymbol g s
-resolved g o e s is = is_there g.symbols s (sym (ap (unresolved g) is) ∙ e)
+own : (g : Graph) (m r : ℕ) → Good (foreign g.records r m) (IsRecordOf g m r)
+own g m r = of_module g.records r m _
 
-low_import : (names : ℕ) (o : Imported) → imports_too_high names o ≡ false → (n : ℕ) → o ≡ Literal n → n < names
-low_import names o e n is = is_low names n (sym (ap (imports_too_high names) is) ∙ e)
+-- a field that is read in some cases only
+read_is : (reads bad : Bool) (P : Type 0) → Good bad P → Good (reads && bad) (IsTrue reads → P)
+read_is true bad P good = ((λ e t. good.0 e), λ p. good.1 (p refl))
+read_is false bad P good = ((λ e t. absurd (true≢false (sym t))), λ p. refl)
+
+abbrev leads : Resolution → Bool
+leads Open = false
+leads Lost = false
+leads (To s) = true
+
+resolved : (g : Graph) (o : Resolution) → Good (unresolved g o) ((s : ℕ) → o ≡ To s → IsSymbol g s)
+resolved g Open = ((λ e s is. absurd (true≢false (sym (ap leads is)))), λ p. refl)
+resolved g Lost = ((λ e s is. absurd (true≢false (sym (ap leads is)))), λ p. refl)
+resolved g (To t) = ((λ e s is. (there g.symbols s).0 (sym (ap (unresolved g) is) ∙ e)), λ p. (there g.symbols t).1 (p t refl))
+
+abbrev names_one : Imported → Bool
+names_one Namespace = false
+names_one (Literal n) = true
+
+low_import : (names : ℕ) (o : Imported) → Good (imports_too_high names o) ((n : ℕ) → o ≡ Literal n → n < names)
+low_import names Namespace = ((λ e n is. absurd (true≢false (sym (ap names_one is)))), λ p. refl)
+low_import names (Literal m) = ((λ e n is. (low names n).0 (sym (ap (imports_too_high names) is) ∙ e)), λ p. (low names m).1 (p m refl))
+
+-- a row has no bad field where its first is good and it has none among the others
+abbrev NoneOf : Option (ℕ × Bool) → Type 0
+NoneOf found = option_map (λ (f : ℕ × Bool). f.0) found ≡ None
+
+field : (n : ℕ) (bad : Bool) (rest : Option (ℕ × Bool)) {P Q : Type 0} → Good bad P → NoneOf rest ↔ Q → NoneOf (cond bad (Some (n, bad)) rest) ↔ (P × Q)
+field n true rest good others = ((λ e. absurd (true≢false (ap is_some e))), λ p. absurd (true≢false (good.1 p.0)))
+field n false rest good others = ((λ e. (good.0 refl, others.0 e)), λ p. others.1 p.1)
+
+no_more : NoneOf None ↔ ⊤
+no_more = ((λ e. tt), λ t. refl)
 
 module _ (names : ℕ) (g : Graph) where
-  own : (m r : ℕ) → foreign g.records r m ≡ false → IsRecordOf g m r
-  own m r e = own_record g.records r m _ e
+  module_is : (r : ModuleRow) → (bad_module names g r ≡ None) ↔ SoundModule g r
+  module_is r = to (field 4 _ _ (given_is (missing g.symbols) (IsSymbol g) (there g.symbols) r.wrapper) (field 8 _ _ (given_is (missing g.symbols) (IsSymbol g) (there g.symbols) r.namespace) no_more))
+      (λ p. record { wrapper = p.0; namespace = p.1.0 }) (λ s. (s.wrapper, (s.namespace, tt)))
 
-  module_sound : (r : ModuleRow) → bad_module names g r ≡ None → SoundModule g r
-  module_sound r e =
-      let f4 = peel _ _ _ e in
-      let f8 = peel _ _ _ f4.1 in
-      record {
-        wrapper = given_good (missing g.symbols) _ (is_there g.symbols) r.wrapper f4.0;
-        namespace = given_good (missing g.symbols) _ (is_there g.symbols) r.namespace f8.0;
-      }
+  symbol_is : (r : SymbolRow) → (bad_symbol names g r ≡ None) ↔ SoundSymbol g r
+  symbol_is r = to (field 1 _ _ (there g.modules r.owner) (field 2 _ _ (there g.symbols r.canonical) (field 3 _ _ (there g.symbols r.through) no_more)))
+      (λ p. record { owner = p.0; canonical = p.1.0; through = p.1.1.0 }) (λ s. (s.owner, (s.canonical, (s.through, tt))))
 
-  symbol_sound : (r : SymbolRow) → bad_symbol names g r ≡ None → SoundSymbol g r
-  symbol_sound r e =
-      let f1 = peel _ _ _ e in
-      let f2 = peel _ _ _ f1.1 in
-      let f3 = peel _ _ _ f2.1 in
-      record { owner = is_there g.modules r.owner f1.0; canonical = is_there g.symbols r.canonical f2.0; through = is_there g.symbols r.through f3.0 }
+  record_is : (r : RecordRow) → (bad_record names g r ≡ None) ↔ SoundRecord g r
+  record_is r = to (field 1 _ _ (there g.modules r.«module») (field 3 _ _ (given_is (missing g.modules) (IsModule g) (there g.modules) r.importee) no_more))
+      (λ p. record { importer = p.0; importee = p.1.0 }) (λ s. (s.importer, (s.importee, tt)))
 
-  record_sound : (r : RecordRow) → bad_record names g r ≡ None → SoundRecord g r
-  record_sound r e =
-      let f1 = peel _ _ _ e in
-      let f3 = peel _ _ _ f1.1 in
-      record { importer = is_there g.modules r.«module» f1.0; importee = given_good (missing g.modules) _ (is_there g.modules) r.importee f3.0 }
+  statement_is : (r : StatementRow) → (bad_statement names g r ≡ None) ↔ SoundStatement g r
+  statement_is r = to (field 1 _ _ (there g.modules r.«module») no_more) (λ p. p.0) (λ s. (s, tt))
 
-  statement_sound : (r : StatementRow) → bad_statement names g r ≡ None → SoundStatement g r
-  statement_sound r e = is_there g.modules r.«module» (peel _ _ _ e).0
+  uses_is : (r : UsesRow) → (bad_uses names g r ≡ None) ↔ SoundUses g r
+  uses_is r = to (field 1 _ _ (there g.statements r.statement) (field 2 _ _ (own g _ r.«record») no_more))
+      (λ p. record { statement = p.0; its_record = p.1.0 }) (λ s. (s.statement, (s.its_record, tt)))
 
-  uses_sound : (r : UsesRow) → bad_uses names g r ≡ None → SoundUses g r
-  uses_sound r e =
-      let f1 = peel _ _ _ e in
-      let f2 = peel _ _ _ f1.1 in
-      record { statement = is_there g.statements r.statement f1.0; its_record = own _ r.«record» f2.0 }
+  reads_is : (r : ReadsRow) → (bad_reads names g r ≡ None) ↔ SoundReads g r
+  reads_is r = to (field 1 _ _ (there g.statements r.statement) (field 2 _ _ (there g.symbols r.symbol) no_more))
+      (λ p. record { statement = p.0; symbol = p.1.0 }) (λ s. (s.statement, (s.symbol, tt)))
 
-  reads_sound : (r : ReadsRow) → bad_reads names g r ≡ None → SoundReads g r
-  reads_sound r e =
-      let f1 = peel _ _ _ e in
-      let f2 = peel _ _ _ f1.1 in
-      record { statement = is_there g.statements r.statement f1.0; symbol = is_there g.symbols r.symbol f2.0 }
+  member_is : (r : MemberRow) → (bad_member names g r ≡ None) ↔ SoundMember names g r
+  member_is r = to (field 1 _ _ (there g.statements r.statement) (field 2 _ _ (there g.symbols r.object)
+      (field 3 _ _ (given_is (too_high names) (λ n. n < names) (low names) r.property) (field 4 _ _ (resolved g r.resolution) no_more))))
+      (λ p. record { statement = p.0; object = p.1.0; property = p.1.1.0; resolution = p.1.1.1.0 }) (λ s. (s.statement, (s.object, (s.property, (s.resolution, tt)))))
 
-  member_sound : (r : MemberRow) → bad_member names g r ≡ None → SoundMember names g r
-  member_sound r e =
-      let f1 = peel _ _ _ e in
-      let f2 = peel _ _ _ f1.1 in
-      let f3 = peel _ _ _ f2.1 in
-      let f4 = peel _ _ _ f3.1 in
-      record {
-        statement = is_there g.statements r.statement f1.0;
-        object = is_there g.symbols r.object f2.0;
-        property = given_good (too_high names) _ (is_low names) r.property f3.0;
-        resolution = resolved g r.resolution f4.0;
-      }
+  import_is : (r : ImportRow) → (bad_import names g r ≡ None) ↔ SoundImport names g r
+  import_is r = to (field 1 _ _ (there g.modules r.«module») (field 2 _ _ (there g.symbols r.local) (field 3 _ _ (there g.symbols r.imported_as)
+      (field 4 _ _ (own g r.«module» r.«record») (field 5 _ _ (low_import names r.name) no_more)))))
+      (λ p. record { importer = p.0; local = p.1.0; imported_as = p.1.1.0; its_record = p.1.1.1.0; name = p.1.1.1.1.0 })
+      (λ s. (s.importer, (s.local, (s.imported_as, (s.its_record, (s.name, tt))))))
 
-  import_sound : (r : ImportRow) → bad_import names g r ≡ None → SoundImport names g r
-  import_sound r e =
-      let f1 = peel _ _ _ e in
-      let f2 = peel _ _ _ f1.1 in
-      let f3 = peel _ _ _ f2.1 in
-      let f4 = peel _ _ _ f3.1 in
-      let f5 = peel _ _ _ f4.1 in
-      record {
-        importer = is_there g.modules r.«module» f1.0;
-        local = is_there g.symbols r.local f2.0;
-        imported_as = is_there g.symbols r.imported_as f3.0;
-        its_record = own r.«module» r.«record» f4.0;
-        name = low_import names r.name f5.0;
-      }
+  export_is : (r : ExportRow) → (bad_export names g r ≡ None) ↔ SoundExport names g r
+  export_is r = to (field 1 _ _ (there g.modules r.«module») (field 2 _ _ (low names r.name) (field 4 _ _ (there g.symbols r.symbol)
+      (field 5 _ _ (read_is (reads_record r.class) _ _ (required_is (λ s. foreign g.records s r.«module») (IsRecordOf g r.«module») (own g r.«module») r.«record»))
+      (field 6 _ _ (read_is (reads_imported r.class) _ _ (required_is (too_high names) (λ n. n < names) (low names) r.imported)) no_more)))))
+      (λ p. record { exporter = p.0; name = p.1.0; symbol = p.1.1.0; its_record = p.1.1.1.0; imported = p.1.1.1.1.0 })
+      (λ s. (s.exporter, (s.name, (s.symbol, (s.its_record, (s.imported, tt))))))
 
-  export_sound : (r : ExportRow) → bad_export names g r ≡ None → SoundExport names g r
-  export_sound r e =
-      let f1 = peel _ _ _ e in
-      let f2 = peel _ _ _ f1.1 in
-      let f4 = peel _ _ _ f2.1 in
-      let f5 = peel _ _ _ f4.1 in
-      let f6 = peel _ _ _ f5.1 in
-      record {
-        exporter = is_there g.modules r.«module» f1.0;
-        name = is_low names r.name f2.0;
-        symbol = is_there g.symbols r.symbol f4.0;
-        its_record = λ reads. required_good (λ s. foreign g.records s r.«module») _ (own r.«module») r.«record» (read_good (reads_record r.class) _ f5.0 reads);
-        imported = λ reads. required_good (too_high names) _ (is_low names) r.imported (read_good (reads_imported r.class) _ f6.0 reads);
-      }
+  constant_is : (r : ConstantRow) → (bad_constant names g r ≡ None) ↔ SoundConstant g r
+  constant_is r = to (field 1 _ _ (there g.symbols r.symbol) no_more) (λ p. p.0) (λ s. (s, tt))
 
-  constant_sound : (r : ConstantRow) → bad_constant names g r ≡ None → SoundConstant g r
-  constant_sound r e = is_there g.symbols r.symbol (peel _ _ _ e).0
+-- neither of two finds is a find
+neither : {T P Q : Type 0} (o p : Option T) → (o ≡ None) ↔ P → (p ≡ None) ↔ Q → (option_or o p ≡ None) ↔ (P × Q)
+neither None p first others = ((λ e. (first.0 refl, others.0 e)), λ q. others.1 q.1)
+neither (Some x) p first others = ((λ e. absurd (true≢false (ap is_some e))), λ q. absurd (true≢false (ap is_some (first.1 q.0))))
 
--- where neither is found, nothing is found in either
-neither : {T : Type 0} (o p : Option T) → option_or o p ≡ None → (o ≡ None) × (p ≡ None)
-neither None p e = (refl, e)
-neither (Some x) p e = absurd (true≢false (ap is_some e))
+at_is : (kind : LoadKind) (i : ℕ) (bad : Option ℕ) → (bad_at kind i bad ≡ None) ↔ (bad ≡ None)
+at_is kind i None = ((λ e. refl), λ e. refl)
+at_is kind i (Some n) = ((λ e. absurd (true≢false (ap is_some e))), λ e. absurd (true≢false (ap is_some e)))
 
-not_at : (kind : LoadKind) (i : ℕ) (bad : Option ℕ) → bad_at kind i bad ≡ None → bad ≡ None
-not_at kind i None e = refl
-not_at kind i (Some n) e = absurd (true≢false (ap is_some e))
+-- no row from number n on has a bad field where each is sound
+rows_are : {T : Type 0} (kind : LoadKind) (bad : T → Option ℕ) (P : T → Type 0) → ((r : T) → (bad r ≡ None) ↔ P r) → (n : ℕ) (rows : List T)
+    → (find_map (λ (p : ℕ × T). bad_at kind p.0 (bad p.1)) (enumerate_from n rows) ≡ None) ↔ All P rows
+rows_are kind bad P is n [] = ((λ e k d l. absurd (omega arith)), λ a. refl)
+rows_are kind bad P is n (r ∷ rs) = to (neither _ _ (to (at_is kind n (bad r)) (is r).0 (is r).1) (rows_are kind bad P is (n + 1) rs))
+    each (λ a. (a zero r (omega arith), λ k d l. a (suc k) d (omega arith)))
+  where
+    each : P r × All P rs → All P (r ∷ rs)
+    each p zero d l = p.0
+    each p (suc k) d l = p.1 k d (omega arith)
 
-none_from : {T : Type 0} (kind : LoadKind) (bad : T → Option ℕ) (n : ℕ) (rows : List T) → find_map (λ (p : ℕ × T). bad_at kind p.0 (bad p.1)) (enumerate_from n rows) ≡ None
-    → All (λ r. bad r ≡ None) rows
-none_from kind bad n [] e k d l = absurd (omega arith)
-none_from kind bad n (r ∷ rs) e zero d l = not_at kind n (bad r) (neither _ _ e).0
-none_from kind bad n (r ∷ rs) e (suc k) d l = none_from kind bad (n + 1) rs (neither _ _ e).1 k d (omega arith)
+table_is : {T : Type 0} (kind : LoadKind) (bad : T → Option ℕ) (P : T → Type 0) → ((r : T) → (bad r ≡ None) ↔ P r) → (rows : List T) → (first_bad kind bad rows ≡ None) ↔ All P rows
+table_is kind bad P is rows = rows_are kind bad P is 0 rows
 
--- a table where no row has a bad field
-table_sound : {T : Type 0} (kind : LoadKind) (bad : T → Option ℕ) (P : T → Type 0) → ((r : T) → bad r ≡ None → P r) → (rows : List T) → first_bad kind bad rows ≡ None → All P rows
-table_sound kind bad P good rows e k d l = good _ (none_from kind bad 0 rows e k d l)
+none_left : {T : Type 0} (o : Option T) → o ≡ None → (o ≡ None) ↔ ⊤
+none_left o is = ((λ e. tt), λ t. is)
 
-pub sound : (names : ℕ) (g : Graph) → bad_row names g ≡ None → Sound names g
-sound names g e =
-    let modules = neither _ _ e in
-    let symbols = neither _ _ modules.1 in
-    let records = neither _ _ symbols.1 in
-    let statements = neither _ _ records.1 in
-    let uses = neither _ _ statements.1 in
-    let reads = neither _ _ uses.1 in
-    let members = neither _ _ reads.1 in
-    let imports = neither _ _ members.1 in
-    let exports = neither _ _ imports.1 in
-    let constants = neither _ _ exports.1 in
-    record {
-      modules = table_sound Module _ _ (module_sound names g) g.modules modules.0;
-      symbols = table_sound Symbol _ _ (symbol_sound names g) g.symbols symbols.0;
-      records = table_sound Record _ _ (record_sound names g) g.records records.0;
-      statements = table_sound Statement _ _ (statement_sound names g) g.statements statements.0;
-      uses = table_sound Uses _ _ (uses_sound names g) g.uses uses.0;
-      reads = table_sound Reads _ _ (reads_sound names g) (reads_in g.references) reads.0;
-      members = table_sound Member _ _ (member_sound names g) (members_in g.references) members.0;
-      imports = table_sound Import _ _ (import_sound names g) g.imports imports.0;
-      exports = table_sound Export _ _ (export_sound names g) g.exports exports.0;
-      constants = table_sound Constant _ _ (constant_sound names g) g.constants constants.0;
-    }
+pub sound_is : (names : ℕ) (g : Graph) → (bad_row names g ≡ None) ↔ Sound names g
+sound_is names g = to
+    (neither _ _ (table_is Module _ _ (module_is names g) g.modules)
+    (neither _ _ (table_is Symbol _ _ (symbol_is names g) g.symbols)
+    (neither _ _ (table_is Record _ _ (record_is names g) g.records)
+    (neither _ _ (table_is Statement _ _ (statement_is names g) g.statements)
+    (neither _ _ (table_is Uses _ _ (uses_is names g) g.uses)
+    (neither _ _ (table_is Reads _ _ (reads_is names g) (reads_in g.references))
+    (neither _ _ (table_is Member _ _ (member_is names g) (members_in g.references))
+    (neither _ _ (table_is Import _ _ (import_is names g) g.imports)
+    (neither _ _ (table_is Export _ _ (export_is names g) g.exports)
+    (neither _ _ (table_is Constant _ _ (constant_is names g) g.constants) (none_left None refl)))))))))))
+    (λ p. record {
+      modules = p.0;
+      symbols = p.1.0;
+      records = p.1.1.0;
+      statements = p.1.1.1.0;
+      uses = p.1.1.1.1.0;
+      reads = p.1.1.1.1.1.0;
+      members = p.1.1.1.1.1.1.0;
+      imports = p.1.1.1.1.1.1.1.0;
+      exports = p.1.1.1.1.1.1.1.1.0;
+      constants = p.1.1.1.1.1.1.1.1.1.0;
+    })
+    (λ s. (s.modules, (s.symbols, (s.records, (s.statements, (s.uses, (s.reads, (s.members, (s.imports, (s.exports, (s.constants, tt)))))))))))

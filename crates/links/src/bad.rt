@@ -1,9 +1,10 @@
 // The first row with a bad field, over the tables in their order.
 
-ghost use Rattle.std.specs.Prelude.{◌≡◌};
+ghost use Rattle.std.specs.Prelude.{◌≡◌, ◌↔◌, None};
 ghost use Rattle.std.specs.List.{filter_map};
 ghost use Rattle.tables.specs.View.{graph, limits_of};
 ghost use Rattle.links.specs.Bad.{bad_at, first_bad, bad_row};
+ghost use Rattle.links.specs.Sound.{Sound};
 
 use crate::among::Among;
 use crate::judged::Judged;
@@ -45,7 +46,8 @@ fn first_bad_among<T: Among>(references: &[Reference], draft: &Draft) -> Option<
 
 // The first row of a draft that has a bad field, and its first bad field.
 pub fn bad_row(draft: &Draft) -> Option<BadRow>
-    ensures { result ≡ bad_row (limits_of draft.now).names (graph draft.now) }
+    ensures value { result ≡ bad_row (limits_of draft.now).names (graph draft.now) }
+    ensures sound { (result ≡ None) ↔ Sound (limits_of draft.now).names (graph draft.now) }
 {
     let seen = draft.slices();
     first_bad(seen.modules, draft)

@@ -9,6 +9,7 @@ use Rattle.links.specs.Among.{as_reads, as_member}
 use Rattle.links.specs.Bad.{first_bad}
 use Rattle.links.specs.Rows.{bad_module, bad_symbol, bad_record, bad_module_of_statement, bad_statement, bad_uses, bad_reads, bad_member, bad_import, bad_export, bad_constant}
 use Rattle.links.proofs.Order.{or_else_is, joined, joined_is, judged_by, reads_are, members_are}
+use Rattle.links.proofs.Soundness.{sound_is}
 use Rattle.links.proofs.bad.bad_row.Goals as goal
 
 pub returns : goal.returns
@@ -36,4 +37,5 @@ returns c =
     let at_exports : c.or_else-8.result ≡ option_or c.or_else-7.result exports = or_else_is c.or_else-7.result c.or_else-8.result exports c.or_else-8.ensures (λ q. search (rules, tests)) in
     let at_constants : c.or_else-9.result ≡ option_or c.or_else-8.result constants = or_else_is c.or_else-8.result c.or_else-9.result constants c.or_else-9.ensures (λ q. search (rules, tests)) in
     let from_left : c.or_else-9.result ≡ joined modules (symbols ∷ records ∷ statements ∷ uses ∷ reads ∷ members ∷ imports ∷ exports ∷ constants ∷ []) = cc in
-    from_left ∙ joined_is modules (symbols ∷ records ∷ statements ∷ uses ∷ reads ∷ members ∷ imports ∷ exports ∷ constants ∷ [])
+    let value = from_left ∙ joined_is modules (symbols ∷ records ∷ statements ∷ uses ∷ reads ∷ members ∷ imports ∷ exports ∷ constants ∷ []) in
+    record { value = value; sound = ((λ none. (sound_is names g).0 (sym value ∙ none)), λ s. value ∙ (sound_is names g).1 s) }
