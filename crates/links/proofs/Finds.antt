@@ -1,10 +1,10 @@
 -- What `find_map` answers over a chain of iterators, where its closure computes a function of the item.
-use Rattle.std.proofs.Common.{◌≡◌, ℕ, zero, suc, Bool, List, [], ◌∷◌, map, refl, sym, ap, subst, ◌∙◌, ◌+◌, ◌<◌, true, true≢false}
+use Rattle.std.proofs.Common.{◌≡◌, ℕ, zero, suc, List, [], ◌∷◌, map, refl, sym, ap, subst, ◌∙◌, ◌+◌, ◌<◌, true, true≢false}
 use denote.Param.Members.{Mut}
 use Rattle.std.specs.Prelude.{Some, None, Option, slice_get, IfSome, is_some}
 use Rattle.std.specs.Fn.{Called}
 use Rattle.std.specs.Iterator.{AlwaysYields, Yields, FindsMapped, DrainsIf}
-use Rattle.std.specs.Iterator.Runs.{Run, SomeRun, AllItemsGive, IsFirstToGive, YieldsRun}
+use Rattle.std.specs.Iterator.Runs.{SomeRun, AllItemsGive, IsFirstToGive, YieldsRun}
 use Rattle.std.specs.List.{FoldsTo}
 use Rattle.std.specs.Option.{MatchOption, option_or}
 use Rattle.std.proofs.lemmas.Iterator.{YieldsList, items_from_drains}

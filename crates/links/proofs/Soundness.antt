@@ -1,9 +1,8 @@
 -- No row has a bad field exactly where the graph is sound.
-use Rattle.std.proofs.Common.{◌≡◌, ℕ, zero, suc, ◌+◌, ◌<◌, Bool, true, false, ◌&&◌, List, [], ◌∷◌, length, refl, sym, ap, ◌∙◌, true≢false, arith, get_or}
-use Rattle.std.specs.Prelude.{◌↔◌, Some, None, Option, All, IfSome, IsSomeAnd, IsTrue, ⊤, cond, find, is_some, slice_get, slice_index_or}
+use Rattle.std.proofs.Common.{◌≡◌, ℕ, zero, suc, ◌+◌, ◌<◌, Bool, true, false, ◌&&◌, List, [], ◌∷◌, length, refl, sym, ap, ◌∙◌, true≢false, arith}
+use Rattle.std.specs.Prelude.{◌↔◌, Some, None, Option, All, IfSome, IsSomeAnd, IsTrue, ⊤, cond, is_some, slice_index_or}
 use Rattle.std.specs.List.{enumerate_from}
 use Rattle.std.specs.Option.{option_or, option_map}
-use Rattle.faults.specs.declared.told.BadRow.{BadRow}
 use Rattle.line.specs.declared.kinds.LoadKind.{LoadKind}
 use Rattle.line.specs.declared.rows.RecordRow.{RecordRow}
 use Rattle.line.specs.declared.rows.ConstantRow.{ConstantRow}
@@ -23,7 +22,7 @@ use Rattle.tables.specs.Graph.{Graph}
 use Rattle.tables.specs.References.{reads_in, members_in}
 use Rattle.line.specs.declared.kinds.LoadKind.TheVariants.{Module, Symbol, Record, Statement, Uses, Reads, Member, Import, Export, Constant}
 use Rattle.links.specs.Bad.{find_map, bad_at, first_bad, bad_row}
-use Rattle.links.specs.Fields.{missing, too_high, given, required, of_other, foreign, first_field}
+use Rattle.links.specs.Fields.{missing, too_high, given, required, foreign}
 use Rattle.links.specs.Rows.{bad_module, bad_symbol, bad_record, bad_statement, bad_uses, bad_reads, bad_member, bad_import, bad_export, bad_constant, unresolved, imports_too_high, reads_record, reads_imported}
 use Rattle.links.specs.Sound.{IsModule, IsSymbol, IsRecordOf, SoundModule, SoundSymbol, SoundRecord, SoundStatement, SoundUses, SoundReads, SoundMember, SoundImport, SoundExport, SoundConstant, Sound}
 

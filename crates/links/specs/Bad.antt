@@ -1,5 +1,5 @@
 -- The first row of a graph with a bad field, and the field: over the tables in their order, and in a table by rising number.
-use Rattle.std.specs.Prelude.{ℕ, List, [], ◌∷◌, Some, None, Option}
+use Rattle.std.specs.Prelude.{ℕ, List, [], ◌∷◌, None, Option}
 use Rattle.std.specs.List.{enumerate_from}
 use Rattle.std.specs.Option.{option_or, option_map}
 use Rattle.faults.specs.declared.told.BadRow.{BadRow}

@@ -8,6 +8,7 @@ use crate::judged::Judged;
 use line::{MemberRow, ReadsRow};
 use tables::Reference;
 
+// A row that can stand there.
 pub(crate) trait Among: Judged + Copy {
     ghost among: { reference.Reference → Option Self };
 

@@ -33,7 +33,8 @@ fn first_bad<T: Judged>(rows: &[T], draft: &Draft) -> Option<BadRow>
         .find_map(|(number, row)| bad_at(number, row, draft))
 }
 
-// The same of the rows of one word among the references.
+// The same of the rows of one word among the references, which are numbered among themselves.
+// The closure says no more than `T::among`, but the checker does not cover a function that is passed by its name here.
 fn first_bad_among<T: Among>(references: &[Reference], draft: &Draft) -> Option<BadRow>
     ensures { result ≡ first_bad T.TABLE (T.bad (limits_of draft.now).names (graph draft.now)) (filter_map T.among references.now) }
 {
@@ -44,7 +45,7 @@ fn first_bad_among<T: Among>(references: &[Reference], draft: &Draft) -> Option<
         .find_map(|(number, row)| bad_at(number, &row, draft))
 }
 
-// The first row of a draft that has a bad field, and its first bad field.
+// The first row of a draft that has a bad field, and the field. Where there is none, linking can rely on every number and name.
 pub fn bad_row(draft: &Draft) -> Option<BadRow>
     ensures value { result ≡ bad_row (limits_of draft.now).names (graph draft.now) }
     ensures sound { (result ≡ None) ↔ Sound (limits_of draft.now).names (graph draft.now) }

@@ -1,11 +1,9 @@
-use Rattle.std.proofs.Common.{◌≡◌, [], ◌∷◌, map, rules, tests, sym, ap, ◌∙◌}
-use Rattle.std.specs.Prelude.{filter_map}
+use Rattle.std.proofs.Common.{◌≡◌, [], ◌∷◌, rules, tests, sym, ap, ◌∙◌}
 use Rattle.std.specs.Option.{option_or}
 use Rattle.line.specs.declared.kinds.LoadKind.TheVariants.{Module, Symbol, Record, Statement, Uses, Reads, Member, Import, Export, Constant}
 use Rattle.tables.specs.References.{reads_in, members_in}
 use Rattle.tables.specs.Slices.{module_of_statement}
 use Rattle.tables.specs.View.{graph, limits_of}
-use Rattle.links.specs.Among.{as_reads, as_member}
 use Rattle.links.specs.Bad.{first_bad}
 use Rattle.links.specs.Rows.{bad_module, bad_symbol, bad_record, bad_module_of_statement, bad_statement, bad_uses, bad_reads, bad_member, bad_import, bad_export, bad_constant}
 use Rattle.links.proofs.Order.{or_else_is, joined, joined_is, judged_by, reads_are, members_are}
