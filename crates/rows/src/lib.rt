@@ -3,6 +3,8 @@
 #![tactic(auto)]
 
 mod absent;
+mod made;
+mod names;
 mod reads;
 mod rows;
 

@@ -3,6 +3,7 @@
 ghost use Rattle.std.specs.Prelude.{◌≡◌, slice_index_or};
 ghost use Rattle.tables.specs.Lookups.{module_at, symbol_at, record_at, export_at};
 ghost use Rattle.rows.specs.Modules.{normal, imported_module};
+ghost use Rattle.rows.specs.Names.{count_names};
 ghost use Rattle.rows.specs.View.{graph};
 
 use crate::absent::*;
@@ -42,9 +43,10 @@ impl Rows {
         row_at(self.draft.slices().exports, i, NO_EXPORT)
     }
 
-    // How many names there are, as the rows were made with.
+    // How many names there are: one more than the highest in a row.
     pub fn names(&self) -> usize
-        ensures { result ≡ self.now.names }
+        ensures value { result ≡ self.now.names }
+        ensures counted { result ≡ count_names (graph self.now) }
     {
         self.names
     }
