@@ -46,7 +46,7 @@ bad_module_of_statement names g m = first_field ((1, missing g.modules m) ∷ []
 abbrev pub bad_statement : ℕ → Graph → StatementRow → Option ℕ
 bad_statement names g r = bad_module_of_statement names g r.«module»
 
--- the record belongs to the module of the statement
+-- the record has to belong to the module of the statement
 abbrev pub bad_uses : ℕ → Graph → UsesRow → Option ℕ
 bad_uses names g r = first_field
     ((1, missing g.statements r.statement)

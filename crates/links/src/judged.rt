@@ -25,6 +25,7 @@ pub(crate) trait Judged {
     const TABLE: LoadKind;
 
     // The first bad field; fields are counted from 1.
+    // It takes the draft and not its slices: their contract would have to speak of every graph that they can show.
     fn bad_field(&self, draft: &Draft) -> Option<u8>
         ensures { result ≡ bad (limits_of draft.now).names (graph draft.now) self.now };
 }
