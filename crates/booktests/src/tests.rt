@@ -1,6 +1,7 @@
 use crate::samples::{constant, export, import, sample};
 use line::{LoadKind, LoadRow, MarkRow, Row, StatementRow};
 use parts::{Layer, Told};
+use rows::Rows;
 use std::fmt::Debug;
 use std::test::Fail;
 use tables::{Draft, Limits};
@@ -167,5 +168,26 @@ fn included_flags(rt: HostRuntime) -> Result<(), Fail> {
         assert_eq!(rt; draft.included(i), i % 3 == 0);
     }
     assert_eq!(rt; draft.included(100), false);
+    Ok(())
+}
+
+#[test]
+fn count_of_names(rt: HostRuntime) -> Result<(), Fail> {
+    // one more than the highest name that a row has and reads
+    let books: [(&[u8], usize); 8] = [
+        (b"mode,1,smart", 0),
+        (b"import,0,0,0,0,*", 0),
+        (b"import,0,0,0,0,0", 1),
+        (b"member,0,0,-,open", 0),
+        (b"member,0,0,30,open", 31),
+        (b"export,0,5,all,0,0,9", 6),
+        (b"export,0,5,indirect,0,0,9", 10),
+        (b"export,0,65535,local,0,-,-", 65536),
+    ];
+    for (line, names) in books {
+        let mut draft = Draft::new(rt.alloc(), Limits::small())?;
+        assert_eq!(rt; load_text(&mut draft, line), Ok(None));
+        assert_eq!(rt; Rows::new(draft).names(), names);
+    }
     Ok(())
 }
