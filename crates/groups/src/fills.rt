@@ -6,8 +6,8 @@ ghost use Rattle.groups.specs.Owned.{numbers_of, enough};
 
 use crate::groups::Groups;
 
-// A row that belongs to another row, by its number.
-pub trait Owned {
+// A row that belongs to another row, by its number. K says by which of its fields, so that a row can be grouped in more than one way.
+pub trait OwnedBy<K> {
     ghost owner: { Self → ℕ };
 
     fn owner(&self) -> usize
@@ -32,7 +32,7 @@ impl Groups<u16> {
     }
 
     // The rows of one owner, as one more group.
-    fn add<T: Owned>(&mut self, rows: &[T], owner: usize)
+    fn add<K, T: OwnedBy<K>>(&mut self, rows: &[T], owner: usize)
         requires few { length rows.now ≤ 65536 }
         requires items { vec_len self.old.items + length (numbers_of T.owner rows.now owner) ≤ vec_capacity self.old.items }
         requires starts { vec_len self.old.starts < vec_capacity self.old.starts }
@@ -49,7 +49,7 @@ impl Groups<u16> {
     }
 
     // The numbers of the rows of each owner, in their order. Too little memory changes nothing.
-    pub fn fill<T: Owned>(&mut self, rows: &[T], owners: u16) -> Result<(), Short>
+    pub fn fill<K, T: OwnedBy<K>>(&mut self, rows: &[T], owners: u16) -> Result<(), Short>
         ensures value { is_ok result ≡ enough (length rows.now) owners (vec_capacity self.old.items) (vec_capacity self.old.starts) }
         ensures holds { is_ok result ≡ true → Holds (numbers_of T.owner rows.now) owners self.new }
         ensures groups { is_ok result ≡ true → (i : ℕ) → i < owners → group self.new i ≡ numbers_of T.owner rows.now i }
@@ -64,7 +64,7 @@ impl Groups<u16> {
         }
         self.clear();
         for owner in 0..groups {
-            self.add(rows, owner);
+            self.add::<K, T>(rows, owner);
         }
         Ok(())
     }

@@ -8,5 +8,5 @@ mod reads;
 #[cfg(test)]
 mod tests;
 
-pub use fills::{Owned, Short};
+pub use fills::{OwnedBy, Short};
 pub use groups::Groups;
