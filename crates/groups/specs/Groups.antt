@@ -1,5 +1,5 @@
 -- What groups hold.
-use Rattle.std.specs.Prelude.{◌≡◌, ℕ, ◌+◌, ◌-◌, cond, ◌&&◌, List, [], map, length, vec_items, nat_le, slice_index, slice_range}
+use Rattle.std.specs.Prelude.{◌≡◌, ℕ, ◌+◌, cond, ◌&&◌, List, [], map, length, vec_items, nat_le, slice_index, slice_range}
 use Rattle.std.specs.List.{range_with_len, flat_map}
 use Rattle.groups.specs.declared.groups.Groups.{Groups}
 
