@@ -53,6 +53,7 @@ impl Groups<u16> {
         ensures value { is_ok result ≡ enough (length rows.now) owners (vec_capacity self.old.items) (vec_capacity self.old.starts) }
         ensures holds { is_ok result ≡ true → Holds (numbers_of T.owner rows.now) owners self.new }
         ensures groups { is_ok result ≡ true → (i : ℕ) → i < owners → group self.new i ≡ numbers_of T.owner rows.now i }
+        ensures room { (vec_capacity self.new.items ≡ vec_capacity self.old.items) × (vec_capacity self.new.starts ≡ vec_capacity self.old.starts) }
         ensures refused { is_ok result ≡ false → self.new ≡ self.old }
     {
         let groups = usize::from(owners);

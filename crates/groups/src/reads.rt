@@ -1,6 +1,6 @@
 // The memory of groups, and the items of one.
 
-ghost use Rattle.std.specs.Prelude.{◌≡◌, ℕ, ◌+◌, ◌≤◌, List, IfOk, vec_capacity, slice_index};
+ghost use Rattle.std.specs.Prelude.{◌≡◌, ℕ, ◌+◌, List, IfOk, vec_capacity, slice_index};
 ghost use Rattle.groups.specs.Groups.{group, Holds};
 
 use crate::groups::Groups;
@@ -9,7 +9,7 @@ use std::alloc::{AllocError, Global};
 impl<T: Copy> Groups<T> {
     // No groups, with memory for so many groups and so many items in all.
     pub fn with_room(heap: Global, groups: u16, items: usize) -> Result<Groups<T>, AllocError>
-        ensures { IfOk result (λ g. ((f : ℕ → List T) → Holds f 0 g) × (items ≤ vec_capacity g.items) × (groups + 1 ≤ vec_capacity g.starts)) }
+        ensures { IfOk result (λ g. ((f : ℕ → List T) → Holds f 0 g) × (vec_capacity g.items ≡ items) × (vec_capacity g.starts ≡ groups + 1)) }
     {
         let items = Vec::with_capacity(heap, items)?;
         let mut starts = Vec::with_capacity(heap, usize::from(groups) + 1)?;
