@@ -201,7 +201,11 @@ fn question_with(count: usize) -> Option<AskKind>
 fn ask_kind(left: &Fields<'_>) -> Option<AskKind>
     ensures { result ≡ asked left.now }
 {
-    AskKind::from_part(left.first()).or(question_with(left.count()))
+    // A match: `or` would count the fields of a line whose question is named, and as `or_else` the proof did not close.
+    match AskKind::from_part(left.first()) {
+        Some(kind) => Some(kind),
+        None => question_with(left.count()),
+    }
 }
 
 // The kind of a row by its word and, for a question, by its fields.
